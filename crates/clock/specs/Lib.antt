@@ -1,0 +1,5 @@
+pub mod Causes
+pub mod Answers
+pub mod Verdicts
+pub mod Meaning
+pub mod Sound
