@@ -1,0 +1,14 @@
+pub mod Ids
+pub mod Events
+pub mod Split
+pub mod Sum
+pub mod Join
+pub mod Walk
+pub mod Fill
+pub mod Grow
+pub mod Reach
+pub mod Shape
+pub mod JoinRules
+pub mod GrowRules
+pub mod Laws
+pub mod Kind
