@@ -3,3 +3,4 @@ pub mod Answers
 pub mod Verdicts
 pub mod Meaning
 pub mod Sound
+pub mod Compare

@@ -17,5 +17,4 @@ pub fn rules_hold()
     ensures event { λ _. ⌜ Event-rules ⌝ }
     ensures canonical { λ _. ⌜ Canonical-trees ⌝ ∗ ⌜ Canonical-ids ⌝ }
     ensures sound { λ _. ⌜ Sound tree ⌝ }
-{
-}
+{}

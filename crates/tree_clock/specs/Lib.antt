@@ -1,0 +1,5 @@
+pub mod Flat
+pub mod Sides
+pub mod Growth
+pub mod Carried
+pub mod Stored
