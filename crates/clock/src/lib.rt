@@ -15,5 +15,8 @@ mod verdicts;
 
 pub use causes::Cause;
 pub use faults::Fault;
+pub use faults::FaultDisplay;
+pub use faults::FaultError;
 pub use kind::Clock;
 pub use verdicts::Verdict;
+pub use verdicts::VerdictDisplay;

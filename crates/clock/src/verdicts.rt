@@ -1,5 +1,6 @@
 ghost use mathlib.Core.Path.{_≡_};
 ghost use Rattle.clock.specs.Verdicts.{verdict-of, byte-of};
+use std::fmt;
 
 /// How one copy stands against another.
 #[derive(Clone, Copy, PartialEq, Eq, Debug)]
@@ -33,5 +34,19 @@ impl Verdict {
         ensures { λ r. ⌜ r ≡ byte-of self ⌝ }
     {
         self as u8
+    }
+}
+
+/// The verdict as a word.
+pub impl fmt::Display for Verdict as VerdictDisplay {
+    fn fmt<W: fmt::Write>(&self, f: &mut fmt::Formatter<W>) -> fmt::Result {
+        f.write_str(
+            match *self {
+                Verdict::Equal => "equal",
+                Verdict::Stale => "stale",
+                Verdict::Ahead => "ahead",
+                Verdict::Conflict => "conflict",
+            },
+        )
     }
 }

@@ -13,6 +13,7 @@ ghost use Rattle.tree_rules.specs.Kind.{joined-due};
 ghost use Rattle.tree_clock.specs.Stored.{event-of, clock-of, clock-made, Same-knows, tree-kind};
 use crate::covers::covers_from;
 use crate::join::join_into;
+use crate::nodes::MOST_NODES;
 use crate::nodes::Node;
 use crate::nodes::NodeSame;
 use crate::nodes::desk;
@@ -50,7 +51,7 @@ impl TreeClock {
     {
         let mut out = desk();
         let n = join_into(parts(&self.nodes), 0, parts(&other.nodes), 0, &mut out);
-        if n > 63 {
+        if n > MOST_NODES {
             return Err(Fault::of(Cause::ClockTooLarge));
         }
         Ok(TreeClock {

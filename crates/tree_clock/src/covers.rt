@@ -8,7 +8,7 @@ use crate::nodes::upper;
 
 // Whether `a` plus `up_a` has at least the sum of `b` plus `up_b` at each node
 // of `b`, root first. It stops at the first node whose sum is above.
-pub fn covers_from(a: &[Node], up_a: u16, b: &[Node], up_b: u16) -> bool
+pub(crate) fn covers_from(a: &[Node], up_a: u16, b: &[Node], up_b: u16) -> bool
     requires { ⌜ Under «up_a» (now a) ⌝ ∗ ⌜ Under «up_b» (now b) ⌝ }
     ensures { λ r. ⌜ ((e f : Event) → now (a .entry) ≡ flat e → now (b .entry) ≡ flat f → r ≡ fits-up e «up_a» f «up_b») ⌝ }
 {

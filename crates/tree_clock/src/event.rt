@@ -16,6 +16,8 @@ ghost use Rattle.tree_clock.specs.Stored.{id-of, event-of, clock-of, pen-made,
 use crate::clocks::TreeClock;
 use crate::fill::fill_into;
 use crate::grow::grow_leaf;
+use crate::nodes::MOST_NODES;
+use crate::nodes::MOST_VALUE;
 use crate::nodes::Node;
 use crate::nodes::NodeSame;
 use crate::nodes::desk;
@@ -60,10 +62,10 @@ fn grown(id: &[Node], e: &[Node]) -> Result<TreeClock, Fault>
 {
     let mut out = desk();
     let (n, value) = grow_leaf(id, e, 0, 12, &mut out);
-    if n > 63 {
+    if n > MOST_NODES {
         return Err(Fault::of(Cause::ClockTooLarge));
     }
-    if value > 65535 {
+    if value > MOST_VALUE {
         return Err(Fault::of(Cause::AtLimit));
     }
     Ok(TreeClock {

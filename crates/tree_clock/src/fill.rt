@@ -67,7 +67,7 @@ fn fill_close(
 }
 
 // Fills `e` under the id, at the front of `out`; the answer is the size.
-pub fn fill_into(id: &[Node], e: &[Node], out: &mut [Node]) -> usize
+pub(crate) fn fill_into(id: &[Node], e: &[Node], out: &mut [Node]) -> usize
     requires below { ⌜ Id-form (now id) ⌝ ∗ ⌜ Normal-form (now e) ⌝ }
     requires room { ⌜ length (now e) ≤ length (now out) ⌝ ∗ ⌜ length (now out) ≤ 1000 ⌝ }
     ensures stands { λ n. ⌜ ((i : Id) (t : Event) → now (id .entry) ≡ flat (shape i) → now (e .entry) ≡ flat t → Normal t → Stands (now (out .exit)) n (fill i t)) ⌝ }

@@ -30,7 +30,7 @@ fn lower_grows(l_zero: bool, r_zero: bool, low: u32, high: u32) -> bool
 }
 
 // What growing `e` under the id costs.
-pub fn growth_cost(id: &[Node], e: &[Node], left: u8) -> u32
+pub(crate) fn growth_cost(id: &[Node], e: &[Node], left: u8) -> u32
     requires { ⌜ Deep left (now id) ⌝ ∗ ⌜ Flat (now e) ⌝ }
     ensures cost { λ r. ⌜ ((i : Id) (t : Event) → now (id .entry) ≡ flat (shape i) → now (e .entry) ≡ flat t → r ≡ cost i t) ⌝ }
     ensures most { λ r. ⌜ r ≤ 1001 * left ⌝ }
@@ -53,7 +53,13 @@ pub fn growth_cost(id: &[Node], e: &[Node], left: u8) -> u32
 // Grows `e` under the id, at the front of `out`. The answer is the size of the
 // grown tree and the value of the leaf that grew, `up` being the sum of the bases
 // above; at 65,536 that value is past the limit, and the tree does not stand in `out`.
-pub fn grow_leaf(id: &[Node], e: &[Node], up: u32, left: u8, out: &mut [Node]) -> (usize, u32)
+pub(crate) fn grow_leaf(
+    id: &[Node],
+    e: &[Node],
+    up: u32,
+    left: u8,
+    out: &mut [Node],
+) -> (usize, u32)
     requires { ⌜ Growth left up (now id) (now e) (now out) ⌝ }
     ensures size { λ r. ⌜ ((i : Id) (t : Event) → now (id .entry) ≡ flat (shape i) → now (e .entry) ≡ flat t → r .0 ≡ sizeOf (grow i t)) ⌝ }
     ensures value { λ r. ⌜ ((i : Id) (t : Event) → now (id .entry) ≡ flat (shape i) → now (e .entry) ≡ flat t → r .1 ≡ reached i t up) ⌝ }

@@ -10,7 +10,7 @@ use crate::nodes::upper;
 use crate::norm::close;
 
 // The join of `a` plus `up_a` and `b` plus `up_b`, at the front of `out`; the answer is its size.
-pub fn join_into(a: &[Node], up_a: u16, b: &[Node], up_b: u16, out: &mut [Node]) -> usize
+pub(crate) fn join_into(a: &[Node], up_a: u16, b: &[Node], up_b: u16, out: &mut [Node]) -> usize
     requires below { ⌜ Under «up_a» (now a) ⌝ ∗ ⌜ Under «up_b» (now b) ⌝ }
     requires room { ⌜ length (now a) + length (now b) ≤ length (now out) + 1 ⌝ ∗ ⌜ length (now a) + length (now b) ≤ 1000 ⌝ }
     ensures stands { λ n. ⌜ ((e f : Event) → now (a .entry) ≡ flat e → now (b .entry) ≡ flat f → Stands (now (out .exit)) n (join-up e «up_a» f «up_b»)) ⌝ }

@@ -23,9 +23,12 @@ mod kind;
 mod nodes;
 mod norm;
 mod pens;
+mod show;
 mod split;
 mod sum;
 
 pub use clocks::TreeClock;
 pub use kind::TreeKind;
 pub use pens::TreePen;
+pub use show::TreeClockDisplay;
+pub use show::TreePenDisplay;

@@ -12,9 +12,9 @@ ghost use Rattle.tree_clock.specs.Flat.{flat, pad, stored, Flat, Laid, Stands}
 // the upper. `size` counts the nodes of the whole subtree, 1 for a leaf, so that
 // a subtree is a part of the array wherever it stands.
 #[derive(Clone, Copy)]
-pub struct Node {
-    pub base: u16,
-    pub size: u16,
+pub(crate) struct Node {
+    pub(crate) base: u16,
+    pub(crate) size: u16,
 }
 
 pub impl PartialEq<Node> for Node as NodeSame {
@@ -25,26 +25,31 @@ pub impl PartialEq<Node> for Node as NodeSame {
     }
 }
 
+// The limits of a tree: its nodes, and its largest value.
+pub(crate) const MOST_NODES: usize = 63;
+
+pub(crate) const MOST_VALUE: u32 = 65535;
+
 const ZERO: [Node; 1] = [Node { base: 0, size: 1 }];
 
 const ONE: [Node; 1] = [Node { base: 1, size: 1 }];
 
 // The tree 0, which is also the id 0.
-pub fn zero() -> &'static [Node]
+pub(crate) fn zero() -> &'static [Node]
     ensures { λ r. ⌜ now r ≡ flat (leaf 0) ⌝ }
 {
     &ZERO
 }
 
 // The id 1.
-pub fn one() -> &'static [Node]
+pub(crate) fn one() -> &'static [Node]
     ensures { λ r. ⌜ now r ≡ flat (leaf 1) ⌝ }
 {
     &ONE
 }
 
 // The lower branch; that of a leaf is 0.
-pub fn lower(s: &[Node]) -> &[Node]
+pub(crate) fn lower(s: &[Node]) -> &[Node]
     requires { ⌜ Flat (now s) ⌝ }
     ensures { λ r. ⌜ ((e : Event) → now (s .entry) ≡ flat e → now r ≡ flat (lo e)) ⌝ }
 {
@@ -55,7 +60,7 @@ pub fn lower(s: &[Node]) -> &[Node]
 }
 
 // The upper branch; that of a leaf is 0.
-pub fn upper(s: &[Node]) -> &[Node]
+pub(crate) fn upper(s: &[Node]) -> &[Node]
     requires { ⌜ Flat (now s) ⌝ }
     ensures { λ r. ⌜ ((e : Event) → now (s .entry) ≡ flat e → now r ≡ flat (hi e)) ⌝ }
 {
@@ -66,7 +71,7 @@ pub fn upper(s: &[Node]) -> &[Node]
 }
 
 // Whether the id is 0.
-pub fn is_zero(s: &[Node]) -> bool
+pub(crate) fn is_zero(s: &[Node]) -> bool
     requires { ⌜ Flat (now s) ⌝ }
     ensures { λ r. ⌜ ((i : Id) → now (s .entry) ≡ flat (shape i) → r ≡ is-off i) ⌝ }
 {
@@ -74,7 +79,7 @@ pub fn is_zero(s: &[Node]) -> bool
 }
 
 // Whether the id is 1.
-pub fn is_one(s: &[Node]) -> bool
+pub(crate) fn is_one(s: &[Node]) -> bool
     requires { ⌜ Flat (now s) ⌝ }
     ensures { λ r. ⌜ ((i : Id) → now (s .entry) ≡ flat (shape i) → r ≡ is-on i) ⌝ }
 {
@@ -82,7 +87,7 @@ pub fn is_one(s: &[Node]) -> bool
 }
 
 // Copies a tree to the front of `out` and answers its size.
-pub fn copy_into(s: &[Node], out: &mut [Node]) -> usize
+pub(crate) fn copy_into(s: &[Node], out: &mut [Node]) -> usize
     requires { ⌜ length (now s) ≤ length (now out) ⌝ }
     ensures stands { λ n. ⌜ ((e : Event) → now (s .entry) ≡ flat e → Stands (now (out .exit)) n e) ⌝ }
     ensures size { λ n. ⌜ n ≡ length (now (s .entry)) ⌝ }
@@ -93,7 +98,7 @@ pub fn copy_into(s: &[Node], out: &mut [Node]) -> usize
 }
 
 // Writes a leaf at the front of `out` and answers its size, 1.
-pub fn leaf_into(value: u16, out: &mut [Node]) -> usize
+pub(crate) fn leaf_into(value: u16, out: &mut [Node]) -> usize
     requires { ⌜ 0 < length (now out) ⌝ }
     ensures stands { λ n. ⌜ Stands (now (out .exit)) n (leaf value) ⌝ }
     ensures long { λ _. ⌜ length (now (out .exit)) ≡ length (now (out .entry)) ⌝ }
@@ -106,7 +111,7 @@ pub fn leaf_into(value: u16, out: &mut [Node]) -> usize
 }
 
 // Writes the root over two branches that lie in `out` up to `end`, and answers the size.
-pub fn root_into(base: u16, out: &mut [Node], end: usize) -> usize
+pub(crate) fn root_into(base: u16, out: &mut [Node], end: usize) -> usize
     requires { ⌜ 0 < length (now out) ⌝ ∗ ⌜ end ≤ 65535 ⌝ }
     ensures stands { λ n. ⌜ ((mid : ℕ) (l r : Event) → Laid (now (out .entry)) mid end l r → Stands (now (out .exit)) n (node base l r)) ⌝ }
     ensures size { λ n. ⌜ n ≡ end ⌝ }
@@ -127,14 +132,14 @@ fn blank() -> [Node; 63]
 }
 
 // Room for any operation: a join of two trees has at most 125 nodes.
-pub fn desk() -> [Node; 125]
+pub(crate) fn desk() -> [Node; 125]
     ensures { λ r. ⌜ length r ≡ 125 ⌝ }
 {
     [Node { base: 0, size: 0 }; 125]
 }
 
 // A tree of at most 63 nodes as it is stored.
-pub fn store(s: &[Node]) -> [Node; 63]
+pub(crate) fn store(s: &[Node]) -> [Node; 63]
     requires { ⌜ length (now s) ≤ 63 ⌝ }
     ensures { λ r. ⌜ r ≡ pad (now (s .entry)) ⌝ }
 {
@@ -144,7 +149,7 @@ pub fn store(s: &[Node]) -> [Node; 63]
 }
 
 // The nodes of a stored tree.
-pub fn parts(nodes: &[Node]) -> &[Node]
+pub(crate) fn parts(nodes: &[Node]) -> &[Node]
     requires { ⌜ ((e : Event) × (now nodes ≡ stored e) × (sizeOf e ≤ 63)) ⌝ }
     ensures { λ r. ⌜ ((e : Event) → now (nodes .entry) ≡ stored e → now r ≡ flat e) ⌝ }
 {

@@ -7,7 +7,7 @@ use crate::nodes::Node;
 
 // Puts the triple of `base` and two branches that lie in `out`, the lower up to
 // `mid` and the upper up to `end`, into normal form, in place, and answers its size.
-pub fn close(out: &mut [Node], base: u16, mid: usize, end: usize) -> usize
+pub(crate) fn close(out: &mut [Node], base: u16, mid: usize, end: usize) -> usize
     requires { ⌜ ((l r : Event) × Laid (now out) mid end l r × Normal l × Normal r × (base + top l ≤ 65535) × (end ≤ 65535)) ⌝ }
     ensures stands { λ n. ⌜ ((l r : Event) → Laid (now (out .entry)) mid end l r → Normal l → Normal r → Stands (now (out .exit)) n (normOf base l r)) ⌝ }
     ensures long { λ _. ⌜ length (now (out .exit)) ≡ length (now (out .entry)) ⌝ }

@@ -14,6 +14,7 @@ ghost use Rattle.tree_rules.specs.Sum.{sum};
 ghost use Rattle.tree_clock.specs.Flat.{flat};
 ghost use Rattle.tree_clock.specs.Stored.{id-of, pen-of, pen-made, Same-makes, tree-kind};
 use crate::join::join_into;
+use crate::nodes::MOST_NODES;
 use crate::nodes::Node;
 use crate::nodes::NodeSame;
 use crate::nodes::desk;
@@ -84,7 +85,7 @@ impl TreePen {
         }
         let mut out = desk();
         let n = join_into(a, 0, b, 0, &mut out);
-        if n > 63 {
+        if n > MOST_NODES {
             return Err(Fault::of(Cause::PenTooLarge));
         }
         Ok(TreePen {

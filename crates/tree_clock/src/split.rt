@@ -15,7 +15,7 @@ use crate::nodes::upper;
 use crate::nodes::zero;
 
 // Whether the id is 0, or a half of it would be deeper than `left`.
-pub fn cannot_split(id: &[Node], left: u8) -> bool
+pub(crate) fn cannot_split(id: &[Node], left: u8) -> bool
     requires { ⌜ ((i : Id) × (now id ≡ flat (shape i)) × Normal-id i × (id-depth i ≤ left)) ⌝ }
     ensures { λ r. ⌜ ((i : Id) → Normal-id i → id-depth i ≤ left → now (id .entry) ≡ flat (shape i) → r ≡ unsplittable left i) ⌝ }
 {
@@ -71,7 +71,7 @@ fn side_into(x: &[Node], y: &[Node], second: bool, out: &mut [Node]) -> usize
 }
 
 // The first half of the id, or the second where `second`, at the front of `out`; the answer is its size.
-pub fn half_into(id: &[Node], second: bool, out: &mut [Node]) -> usize
+pub(crate) fn half_into(id: &[Node], second: bool, out: &mut [Node]) -> usize
     requires { ⌜ ((i : Id) × (now id ≡ flat (shape i)) × (id-size (half second i) ≤ length (now out))) ⌝ ∗ ⌜ length (now out) ≤ 1000 ⌝ }
     ensures stands { λ n. ⌜ ((i : Id) → now (id .entry) ≡ flat (shape i) → Stands (now (out .exit)) n (shape (half second i))) ⌝ }
     ensures long { λ _. ⌜ length (now (out .exit)) ≡ length (now (out .entry)) ⌝ }

@@ -9,7 +9,7 @@ use crate::nodes::lower;
 use crate::nodes::upper;
 
 // Whether some place is 1 in both ids.
-pub fn overlaps(a: &[Node], b: &[Node]) -> bool
+pub(crate) fn overlaps(a: &[Node], b: &[Node]) -> bool
     requires { ⌜ Flat-id (now a) ⌝ ∗ ⌜ Flat-id (now b) ⌝ }
     ensures { λ r. ⌜ ((i j : Id) → Normal-id i → Normal-id j → now (a .entry) ≡ flat (shape i) → now (b .entry) ≡ flat (shape j) → r ≡ overlap i j) ⌝ }
 {

@@ -19,13 +19,13 @@ join-into-n-requires c κs =
     let d = c .desk-out .ensures in
     record { below = (clock-under _ (c .pre .made .0) _ (c .parts .ensures), clock-under _ (c .pre .made .1) _ (c .parts-2 .ensures)); room = (omega arith, omega arith) }
 
-pub returns-then-n-gt63 : need.returns-then-n-gt63
-returns-then-n-gt63 c = record { result = join-large _ _ (c .pre .made .0) (c .pre .made .1) _ _ (c .parts .ensures) (c .parts-2 .ensures) _ _ (c .join-into-n .ensures .stands) _ _ (c .if-n-gt63 .taken) (c .of .ensures); marks = tt }
+pub returns-then-n-gt-MOST-NODES : need.returns-then-n-gt-MOST-NODES
+returns-then-n-gt-MOST-NODES c = record { result = join-large _ _ (c .pre .made .0) (c .pre .made .1) _ _ (c .parts .ensures) (c .parts-2 .ensures) _ _ (c .join-into-n .ensures .stands) _ _ (c .if-n-gt-MOST-NODES .taken) (c .of .ensures); marks = tt }
 
 pub store-requires : need.store-requires
-store-requires c κs = front-short _ _ 63 (c .if-n-gt63 .left)
+store-requires c κs = front-short _ _ 63 (c .if-n-gt-MOST-NODES .left)
 
 pub returns : need.returns
 returns c =
-    let e = join-done _ _ (c .pre .made .0) (c .pre .made .1) _ _ (c .parts .ensures) (c .parts-2 .ensures) _ _ (c .join-into-n .ensures .stands) _ (c .if-n-gt63 .left) (c .store .ensures) in
+    let e = join-done _ _ (c .pre .made .0) (c .pre .made .1) _ _ (c .parts .ensures) (c .parts-2 .ensures) _ _ (c .join-into-n .ensures .stands) _ (c .if-n-gt-MOST-NODES .left) (c .store .ensures) in
     record { result = e; marks = join-has tree-kind tree-kind-sound _ _ (c .pre .made .0) (c .pre .made .1) _ e }
