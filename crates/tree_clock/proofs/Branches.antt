@@ -8,6 +8,7 @@ use lib.ListN.{length}
 use Rattle.tree_rules.specs.Ids.{Id, off, on, pair, id-size, id-depth, Normal-id, is-off}
 use Rattle.tree_rules.specs.Events.{Event, leaf, node, size, base, top, lo, hi}
 use Rattle.tree_rules.specs.Shape.{shape}
+use Rattle.tree_rules.proofs.Shapes.{size-shape}
 use Rattle.tree_rules.proofs.Norms.{size-pos, top-lo, top-hi, base-top}
 use Rattle.tree_clock.specs.declared.nodes.Node.{Node}
 use Rattle.tree_clock.specs.Flat.{flat, Flat, Flat-id, Under}
@@ -84,11 +85,6 @@ lower-flat-id s t w (i, p, n) = (id-lo i, lower-id s t w i p, normal-id-lo i n)
 
 pub upper-flat-id : (s t : List Node) → Upper s t → Flat-id s → Flat-id t
 upper-flat-id s t w (i, p, n) = (id-hi i, upper-id s t w i p, normal-id-hi i n)
-
-pub size-shape : (i : Id) → size (shape i) ≡ id-size i
-size-shape off = refl
-size-shape on = refl
-size-shape (pair l r) = omega (arith, size-shape l, size-shape r)
 
 pub id-long : (s : List Node) (i : Id) → s ≡ flat (shape i) → length s ≡ id-size i
 id-long s i p = long s (shape i) p ∙ size-shape i

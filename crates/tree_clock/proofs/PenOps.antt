@@ -27,12 +27,12 @@ use Rattle.tree_rules.specs.Split.{half, unsplittable}
 use Rattle.tree_rules.specs.Sum.{sum, overlap}
 use Rattle.tree_rules.proofs.Made.{made-id}
 use Rattle.tree_rules.proofs.PenLaws.{fork}
-use Rattle.tree_rules.proofs.Shapes.{join-shape, top-shape, shape-injective}
+use Rattle.tree_rules.proofs.Shapes.{join-shape, top-shape, shape-injective, size-shape}
 use Rattle.tree_clock.specs.declared.nodes.Node.{Node}
 use Rattle.tree_clock.specs.declared.pens.TreePen.{TreePen}
 use Rattle.tree_clock.specs.Flat.{flat, pad, stored, Flat-id, Under, Stands}
 use Rattle.tree_clock.specs.Stored.{id-of, pen-of, pen-made, Same-makes}
-use Rattle.tree_clock.proofs.Branches.{size-shape, id-long}
+use Rattle.tree_clock.proofs.Branches.{id-long}
 use Rattle.tree_clock.proofs.FlatForm.{flat-same}
 use Rattle.tree_clock.proofs.Joining.{Joins}
 use Rattle.tree_clock.proofs.Public.{Parts, due-yes, store-front}

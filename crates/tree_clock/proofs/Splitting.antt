@@ -17,7 +17,8 @@ use Rattle.tree_clock.specs.Flat.{flat, Laid, Stands}
 use Rattle.tree_rules.specs.Events.{Event, leaf, node}
 use Rattle.tree_clock.proofs.Writing.{both, laid}
 use Rattle.tree_clock.proofs.FlatForm.{first, first-size, first-base}
-use Rattle.tree_clock.proofs.Branches.{Lower, Upper, id-lo, id-hi, lower-id, upper-id, normal-id-lo, normal-id-hi, id-long, size-shape}
+use Rattle.tree_rules.proofs.Shapes.{size-shape}
+use Rattle.tree_clock.proofs.Branches.{Lower, Upper, id-lo, id-hi, lower-id, upper-id, normal-id-lo, normal-id-hi, id-long}
 
 -- two tests that say yes together are one
 same-ltb : (a b c d : ℕ) → (a < b → c < d) → (c < d → a < b) → ltb a b ≡ ltb c d

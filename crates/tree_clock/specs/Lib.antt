@@ -3,3 +3,4 @@ pub mod Sides
 pub mod Growth
 pub mod Carried
 pub mod Stored
+pub mod Operations

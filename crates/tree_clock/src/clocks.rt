@@ -1,16 +1,13 @@
 ghost use mathlib.Core.Bool.{true};
 ghost use mathlib.Core.Logic.{_↔_};
 ghost use mathlib.Core.Path.{_≡_};
-ghost use Rattle.clock.specs.Answers.{answered};
 ghost use Rattle.clock.specs.Compare.{Compares-marks};
 ghost use Rattle.clock.specs.Meaning.{Yes};
 ghost use Rattle.clock.specs.Sound.{Joined, Within};
-ghost use Rattle.clock.specs.Verdicts.{verdict-of};
 ghost use Rattle.std.specs.Vec.{made};
 ghost use Rattle.tree_rules.specs.Events.{leaf};
-ghost use Rattle.tree_rules.specs.Join.{join as joinOf, covers-up};
-ghost use Rattle.tree_rules.specs.Kind.{joined-due};
-ghost use Rattle.tree_clock.specs.Stored.{event-of, clock-of, clock-made, Same-knows, tree-kind};
+ghost use Rattle.tree_clock.specs.Operations.{join-answer, covers-answer, verdict-answer};
+ghost use Rattle.tree_clock.specs.Stored.{clock-of, clock-made, Same-knows, tree-kind};
 use crate::covers::covers_from;
 use crate::join::join_into;
 use crate::nodes::MOST_NODES;
@@ -46,7 +43,7 @@ impl TreeClock {
     /// where it has more than 63 nodes.
     pub fn join(&self, other: &TreeClock) -> Result<TreeClock, Fault>
         requires made { ⌜ Yes (clock-made (now self)) ⌝ ∗ ⌜ Yes (clock-made (now other)) ⌝ }
-        ensures result { λ r. ⌜ r ≡ answered (joined-due (event-of (now (self .entry))) (event-of (now (other .entry)))) (clock-of (joinOf (event-of (now (self .entry))) (event-of (now (other .entry))))) ⌝ }
+        ensures result { λ r. ⌜ r ≡ join-answer (now (self .entry)) (now (other .entry)) ⌝ }
         ensures marks { λ r. ⌜ made r (λ c. Joined tree-kind (now (self .entry)) (now (other .entry)) c) ⌝ }
     {
         let mut out = desk();
@@ -62,7 +59,7 @@ impl TreeClock {
     /// Whether this tree's value is at least the other's at every place. Never refused.
     pub fn covers(&self, other: &TreeClock) -> bool
         requires made { ⌜ Yes (clock-made (now self)) ⌝ ∗ ⌜ Yes (clock-made (now other)) ⌝ }
-        ensures result { λ r. ⌜ r ≡ covers-up (event-of (now (self .entry))) 0 (event-of (now (other .entry))) 0 ⌝ }
+        ensures result { λ r. ⌜ r ≡ covers-answer (now (self .entry)) (now (other .entry)) ⌝ }
         ensures marks { λ r. ⌜ (r ≡ true) ↔ Within tree-kind (now (other .entry)) (now (self .entry)) ⌝ }
     {
         covers_from(parts(&self.nodes), 0, parts(&other.nodes), 0)
@@ -81,7 +78,7 @@ impl TreeClock {
     /// The verdict on this clock against the other.
     pub fn compare(&self, other: &TreeClock) -> Verdict
         requires made { ⌜ Yes (clock-made (now self)) ⌝ ∗ ⌜ Yes (clock-made (now other)) ⌝ }
-        ensures result { λ r. ⌜ r ≡ verdict-of (covers-up (event-of (now (self .entry))) 0 (event-of (now (other .entry))) 0) (covers-up (event-of (now (other .entry))) 0 (event-of (now (self .entry))) 0) ⌝ }
+        ensures result { λ r. ⌜ r ≡ verdict-answer (now (self .entry)) (now (other .entry)) ⌝ }
         ensures marks { λ r. ⌜ Compares-marks tree-kind (now (self .entry)) (now (other .entry)) r ⌝ }
     {
         // one value is the commonest case, and the cheapest to see

@@ -6,13 +6,13 @@ ghost use Rattle.clock.specs.Meaning.{Yes};
 ghost use Rattle.clock.specs.Sound.{Evented};
 ghost use Rattle.std.specs.Vec.{made};
 ghost use Rattle.tree_rules.specs.Events.{Event, size as sizeOf, top};
-ghost use Rattle.tree_rules.specs.Grow.{event as eventOf, grow as growOf};
+ghost use Rattle.tree_rules.specs.Grow.{grow as growOf};
 ghost use Rattle.tree_rules.specs.Ids.{Id, Normal-id, id-depth, is-off};
-ghost use Rattle.tree_rules.specs.Kind.{grown-due};
 ghost use Rattle.tree_rules.specs.Shape.{shape};
 ghost use Rattle.tree_clock.specs.Flat.{flat};
 ghost use Rattle.tree_clock.specs.Growth.{past-limits};
-ghost use Rattle.tree_clock.specs.Stored.{id-of, event-of, clock-of, pen-made, clock-made, tree-kind};
+ghost use Rattle.tree_clock.specs.Operations.{event-answer};
+ghost use Rattle.tree_clock.specs.Stored.{clock-of, pen-made, clock-made, tree-kind};
 use crate::clocks::TreeClock;
 use crate::fill::fill_into;
 use crate::grow::grow_leaf;
@@ -35,7 +35,7 @@ impl TreeClock {
     /// where a value passes 65,535.
     pub fn event(&self, pen: &TreePen) -> Result<TreeClock, Fault>
         requires made { ⌜ Yes (clock-made (now self)) ⌝ ∗ ⌜ Yes (pen-made (now pen)) ⌝ }
-        ensures result { λ r. ⌜ r ≡ answered (grown-due (id-of (now (pen .entry))) (event-of (now (self .entry)))) (clock-of (eventOf (id-of (now (pen .entry))) (event-of (now (self .entry))))) ⌝ }
+        ensures result { λ r. ⌜ r ≡ event-answer (now (pen .entry)) (now (self .entry)) ⌝ }
         ensures marks { λ r. ⌜ made r (λ c. Evented tree-kind (now (pen .entry)) (now (self .entry)) c) ⌝ }
     {
         let id = parts(&pen.nodes);

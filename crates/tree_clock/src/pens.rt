@@ -1,18 +1,16 @@
-ghost use mathlib.Core.Bool.{Bool, true, false};
+ghost use mathlib.Core.Bool.{true};
 ghost use mathlib.Core.Logic.{_↔_};
 ghost use mathlib.Core.Path.{_≡_};
 ghost use Prim.Native.Nat.{ℕ, _≤_};
-ghost use Rattle.clock.specs.Answers.{answered};
 ghost use Rattle.clock.specs.Meaning.{Yes};
 ghost use Rattle.clock.specs.Sound.{Forked, United};
 ghost use Rattle.std.specs.Vec.{made};
 ghost use Rattle.tree_rules.specs.Ids.{Id, off, on, id-size};
-ghost use Rattle.tree_rules.specs.Kind.{split-due, sum-due};
 ghost use Rattle.tree_rules.specs.Shape.{shape};
 ghost use Rattle.tree_rules.specs.Split.{half};
-ghost use Rattle.tree_rules.specs.Sum.{sum};
 ghost use Rattle.tree_clock.specs.Flat.{flat};
-ghost use Rattle.tree_clock.specs.Stored.{id-of, pen-of, pen-made, Same-makes, tree-kind};
+ghost use Rattle.tree_clock.specs.Operations.{fork-answer, unite-answer};
+ghost use Rattle.tree_clock.specs.Stored.{pen-of, pen-made, Same-makes, tree-kind};
 use crate::join::join_into;
 use crate::nodes::MOST_NODES;
 use crate::nodes::Node;
@@ -61,7 +59,7 @@ impl TreePen {
     /// deeper than 12.
     pub fn fork(&self) -> Result<(TreePen, TreePen), Fault>
         requires made { ⌜ Yes (pen-made (now self)) ⌝ }
-        ensures result { λ r. ⌜ r ≡ answered (split-due (id-of (now (self .entry)))) (pen-of (half false (id-of (now (self .entry)))), pen-of (half true (id-of (now (self .entry))))) ⌝ }
+        ensures result { λ r. ⌜ r ≡ fork-answer (now (self .entry)) ⌝ }
         ensures marks { λ r. ⌜ made r (λ h. Forked tree-kind (now (self .entry)) (h .0) (h .1)) ⌝ }
     {
         let id = parts(&self.nodes);
@@ -75,7 +73,7 @@ impl TreePen {
     /// is 1 in both, else with 13 exactly where it has more than 63 nodes.
     pub fn unite(&self, other: &TreePen) -> Result<TreePen, Fault>
         requires made { ⌜ Yes (pen-made (now self)) ⌝ ∗ ⌜ Yes (pen-made (now other)) ⌝ }
-        ensures result { λ r. ⌜ r ≡ answered (sum-due (id-of (now (self .entry))) (id-of (now (other .entry)))) (pen-of (sum (id-of (now (self .entry))) (id-of (now (other .entry))))) ⌝ }
+        ensures result { λ r. ⌜ r ≡ unite-answer (now (self .entry)) (now (other .entry)) ⌝ }
         ensures marks { λ r. ⌜ made r (λ p. United tree-kind (now (self .entry)) (now (other .entry)) p) ⌝ }
     {
         let a = parts(&self.nodes);
