@@ -1,0 +1,3 @@
+pub mod Decimals
+pub mod Tickets
+pub mod Valves

@@ -1,0 +1,6 @@
+mod Tests
+mod Numbers
+mod Filled
+mod Raised
+mod Indexed
+mod Laws

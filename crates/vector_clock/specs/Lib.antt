@@ -1,0 +1,4 @@
+pub mod Counting
+pub mod Pens
+pub mod Clocks
+pub mod Vectors
