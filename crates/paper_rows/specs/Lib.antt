@@ -1,2 +1,3 @@
 pub mod TreeRows
+pub mod YardRows
 pub mod Rows

@@ -1,0 +1,17 @@
+pub mod Sets
+pub mod Invariant
+pub mod Numbered
+pub mod Moved
+pub mod Lookups
+pub mod Due
+pub mod WellMade
+pub mod Edits
+pub mod Forks
+pub mod Merges
+pub mod Opened
+pub mod Good
+pub mod Holding
+pub mod Still
+pub mod Refusals
+pub mod Lawful
+pub mod Law

@@ -1,0 +1,14 @@
+pub mod Tables
+pub mod Checks
+pub mod Open
+pub mod Fork
+pub mod Edit
+pub mod Judge
+pub mod Report
+pub mod Pull
+pub mod Settle
+pub mod Retire
+pub mod Drop
+pub mod Calls
+pub mod History
+pub mod Law

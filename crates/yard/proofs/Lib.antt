@@ -1,0 +1,12 @@
+pub mod Outcomes
+pub mod Clauses
+pub mod Edited
+pub mod Judged
+pub mod Settled
+pub mod Checked
+pub mod Upto
+pub mod Taken
+pub mod Forked
+pub mod Retired
+pub mod OpenTables
+pub mod Reported

@@ -1,0 +1,5 @@
+pub mod Passing
+pub mod Ready
+pub mod Settling
+pub mod Taking
+pub mod Cards
