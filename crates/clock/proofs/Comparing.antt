@@ -1,12 +1,12 @@
 -- The verdict of a sound clock kind is what the marks of the two clocks say.
-use Rattle.std.proofs.Common.{◌≡◌, ℕ, Bool, true, false, sym, refl, ap, ◌∙◌, ap₂, inl, inr}
+use Rattle.std.proofs.Common.{◌≡◌, Bool, true, false, sym, refl, ap, ◌∙◌, ap₂, inl, inr}
 use Rattle.std.proofs.lemmas.Bool.{both_ways, cases_Bool}
 use Rattle.clock.specs.declared.verdicts.Verdict.{Verdict}
 use Rattle.clock.specs.declared.verdicts.Verdict.TheVariants.{Equal, Stale, Ahead, Conflict}
 use Rattle.clock.specs.Verdicts.{verdict_of}
 use Rattle.clock.specs.Meaning.{Meaning, Yes}
 use Rattle.clock.specs.Sound.{Sound, Within}
-use Rattle.clock.specs.Compare.{SameKnown, ComparesMarks}
+use Rattle.clock.specs.Compare.{ComparesMarks}
 
 -- two tests that say yes together are one
 same_test : (x y : Bool) → (x ≡ true → y ≡ true) → (y ≡ true → x ≡ true) → x ≡ y

@@ -4,7 +4,7 @@
 -- first ds       the first cause of a list that is due
 -- fault_of c     a refusal with no place yet
 -- answered d x   the refusal where a cause is due, else x
-use Rattle.std.specs.Prelude.{Bool, true, false, cond, List, [], ◌∷◌, Some, None, Ok, Err, Option, Result}
+use Rattle.std.specs.Prelude.{Bool, cond, List, [], ◌∷◌, Some, None, Ok, Err, Option, Result}
 use Rattle.clock.specs.declared.causes.Cause.{Cause}
 use Rattle.clock.specs.declared.faults.Fault.{Fault}
 

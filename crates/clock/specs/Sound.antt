@@ -8,7 +8,7 @@
 --                   what is shown of the value that an operation gives
 -- Opening           the seed forks, either half makes an event on the empty clock, and the two clocks join
 -- Sound             all of it: a kind that denies every fork, forgets marks at join or refuses otherwise than it says has no proof of this
-use Rattle.std.specs.Prelude.{◌≡◌, ℕ, Bool, true, false, ◌||◌, ◌⊎◌, ◌↔◌, Some, None, Option}
+use Rattle.std.specs.Prelude.{◌≡◌, ℕ, false, ◌||◌, ◌⊎◌, ◌↔◌, Some, None}
 use Rattle.clock.specs.declared.causes.Cause.{Cause}
 use Rattle.clock.specs.declared.causes.Cause.TheVariants.{CannotSplit, PensOverlap, PenTooLarge, PenSpent, ClockTooLarge, AtLimit}
 use Rattle.clock.specs.Meaning.{Meaning, Yes}

@@ -8,6 +8,8 @@
 //! let verdict = mine.compare(&theirs);   // Equal, Stale, Ahead or Conflict
 //! ```
 
+#![tactic(auto)]
+
 mod causes;
 mod faults;
 mod kind;

@@ -2,6 +2,8 @@
 //! copies were made apart. Judged by interval tree clocks, and the second season
 //! by vectors too.
 
+#![tactic(auto)]
+
 mod replica;
 mod seasons;
 

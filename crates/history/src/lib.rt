@@ -10,6 +10,8 @@
 //! let mut copies = [Record { clock, payload }; 8];   // 4 berths × 2 files
 //! ```
 
+#![tactic(auto)]
+
 mod histories;
 mod tables;
 

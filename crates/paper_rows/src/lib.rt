@@ -2,6 +2,8 @@
 //! checks against the definitions. A subject has its rows in a file of specs/,
 //! and `Rows.antt` joins them.
 
+#![tactic(auto)]
+
 ghost use Rattle.std.specs.Prelude.{◌≡◌, true};
 ghost use Rattle.paper_rows.specs.Rows.{all_rows_hold};
 

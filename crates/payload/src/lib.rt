@@ -10,6 +10,8 @@
 //! `Ticket` is a digest with a length, `Valve` the state of a valve. Both are
 //! written and read as one word of a log.
 
+#![tactic(auto)]
+
 mod decimals;
 mod kinds;
 #[cfg(test)]

@@ -13,6 +13,8 @@
 //! mine.join(&theirs)?.event(&bridge)?            // settles it
 //! ```
 
+#![tactic(auto)]
+
 mod clocks;
 mod covers;
 mod event;

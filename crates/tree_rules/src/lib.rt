@@ -2,6 +2,8 @@
 //! literature writes them, and what is proved of these rules. There is nothing
 //! to run here: `tree_clock` carries the rules out on stored trees.
 
+#![tactic(auto)]
+
 ghost use Rattle.clock.specs.Sound.{Sound};
 ghost use Rattle.tree_rules.specs.GrowRules.{EventRules, FillRules, GrowRules};
 ghost use Rattle.tree_rules.specs.JoinRules.{JoinRules};

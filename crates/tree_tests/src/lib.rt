@@ -2,6 +2,8 @@
 //! reached by operations from the seed and the empty clock, and read by what it
 //! prints; a refusal is read by its number.
 
+#![tactic(auto)]
+
 #[cfg(test)]
 mod clock_tests;
 #[cfg(test)]

@@ -11,6 +11,8 @@
 //! println!(rt, "{theirs} {clock}")?;          // {8,9,..,15} [0,0,0,0,0,0,0,0,1,0,..]
 //! ```
 
+#![tactic(auto)]
+
 mod clocks;
 mod kind;
 mod pens;

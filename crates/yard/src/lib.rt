@@ -19,6 +19,8 @@
 //! buffer are exactly the documented ones; `history`, whatever calls led to
 //! these tables, the verdicts speak of the edits behind the copies.
 
+#![tactic(auto)]
+
 pub use yard_cards::{Card, OpenCard, SealedCard, blank_berth, blank_copy, open, seal};
 pub use yard_editing::{edit, settle};
 pub use yard_forking::{drop, fork};

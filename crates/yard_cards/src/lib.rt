@@ -9,6 +9,8 @@
 //! let sealed = seal(card);
 //! ```
 
+#![tactic(auto)]
+
 mod blanks;
 mod cards;
 mod open_card;

@@ -9,6 +9,8 @@
 //! let clock = copies[i].clock.event(&berths[a].pen).at(a, f)?;
 //! ```
 
+#![tactic(auto)]
+
 mod checks;
 mod places;
 

@@ -1,6 +1,8 @@
 //! The calls that write one copy of a yard, under the open card: `edit` and
 //! `settle`.
 
+#![tactic(auto)]
+
 mod editing;
 mod settling;
 

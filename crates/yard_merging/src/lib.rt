@@ -1,6 +1,8 @@
 //! The calls by which one replica takes over what another has, under the open
 //! card: `pull` and `retire`.
 
+#![tactic(auto)]
+
 mod pulling;
 mod retiring;
 mod taking;

@@ -1,5 +1,7 @@
 //! The calls that read a yard, under either card: `judge` and `report`.
 
+#![tactic(auto)]
+
 mod judging;
 mod reporting;
 
