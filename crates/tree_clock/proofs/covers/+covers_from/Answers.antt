@@ -7,38 +7,38 @@ use Rattle.tree_clock.proofs.covers.+covers_from.Goals as goal
 pub bounds-a-0 : goal.bounds-a-0
 bounds-a-0 t c = let p = c.requires.0 in some _ (p.0, p.1)
 
-pub overflow-add-at-a : goal.overflow-add-at-a
-overflow-add-at-a t c = omega (arith, under_room _ _ c.requires.0)
+pub overflow_add-at_a : goal.overflow_add-at_a
+overflow_add-at_a t c = omega (arith, under_room _ _ c.requires.0)
 
 pub bounds-b-0 : goal.bounds-b-0
 bounds-b-0 t c = let p = c.requires.1 in some _ (p.0, p.1)
 
-pub overflow-add-at-b : goal.overflow-add-at-b
-overflow-add-at-b t c = omega (arith, under_room _ _ c.requires.1)
+pub overflow_add-at_b : goal.overflow_add-at_b
+overflow_add-at_b t c = omega (arith, under_room _ _ c.requires.1)
 
-pub returns-then-at-b-at-a : goal.returns-then-at-b-at-a
-returns-then-at-b-at-a t c = walk_above _ _ _ _ c.if-at-b-at-a.true
+pub returns-then-at_b-at_a : goal.returns-then-at_b-at_a
+returns-then-at_b-at_a t c = walk_above _ _ _ _ c.if-at_b-at_a.true
 
 pub bounds-b-0-2 : goal.bounds-b-0-2
 bounds-b-0-2 t c = let p = c.requires.1 in some _ (p.0, p.1)
 
 pub returns-then-b-eq1 : goal.returns-then-b-eq1
-returns-then-b-eq1 t c = walk_leaf _ _ _ _ c.if-at-b-at-a.false c.if-b-eq1.true
+returns-then-b-eq1 t c = walk_leaf _ _ _ _ c.if-at_b-at_a.false c.if-b-eq1.true
 
-pub covers-from-requires : goal.covers-from-requires
-covers-from-requires t c =
+pub covers_from-requires : goal.covers_from-requires
+covers_from-requires t c =
     let p = c.requires.1 in
     let h = lower_less _ _ (p.0, p.1) c.lower-2.ensures c.if-b-eq1.false in
     (omega arith, (under_lower _ _ _ c.requires.0 c.lower.ensures, under_lower _ _ _ p c.lower-2.ensures))
 
-pub covers-from-requires-then-covers-from : goal.covers-from-requires-then-covers-from
-covers-from-requires-then-covers-from t c =
+pub covers_from-requires-then-covers_from : goal.covers_from-requires-then-covers_from
+covers_from-requires-then-covers_from t c =
     let p = c.requires.1 in
-    let h = upper_less _ _ (p.0, p.1) c.upper-then-covers-from.ensures c.if-b-eq1.false in
-    (omega arith, (under_upper _ _ _ c.requires.0 c.upper.ensures, under_upper _ _ _ p c.upper-then-covers-from.ensures))
+    let h = upper_less _ _ (p.0, p.1) c.upper-then-covers_from.ensures c.if-b-eq1.false in
+    (omega arith, (under_upper _ _ _ c.requires.0 c.upper.ensures, under_upper _ _ _ p c.upper-then-covers_from.ensures))
 
-pub returns-then-covers-from : goal.returns-then-covers-from
-returns-then-covers-from t c = walk_high _ _ _ _ c.if-at-b-at-a.false c.if-b-eq1.false _ _ _ _ c.lower.ensures c.lower-2.ensures c.upper.ensures c.upper-then-covers-from.ensures _ _ c.covers-from.ensures c.covers-from-then-covers-from.ensures c.if-covers-from.true
+pub returns-then-covers_from : goal.returns-then-covers_from
+returns-then-covers_from t c = walk_high _ _ _ _ c.if-at_b-at_a.false c.if-b-eq1.false _ _ _ _ c.lower.ensures c.lower-2.ensures c.upper.ensures c.upper-then-covers_from.ensures _ _ c.covers_from.ensures c.covers_from-then-covers_from.ensures c.if-covers_from.true
 
-pub returns-else-covers-from : goal.returns-else-covers-from
-returns-else-covers-from t c = walk_low _ _ _ _ c.if-at-b-at-a.false c.if-b-eq1.false _ _ c.lower.ensures c.lower-2.ensures _ c.covers-from.ensures c.if-covers-from.false
+pub returns-else-covers_from : goal.returns-else-covers_from
+returns-else-covers_from t c = walk_low _ _ _ _ c.if-at_b-at_a.false c.if-b-eq1.false _ _ c.lower.ensures c.lower-2.ensures _ c.covers_from.ensures c.if-covers_from.false

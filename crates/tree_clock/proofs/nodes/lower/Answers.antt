@@ -10,8 +10,8 @@ returns-then-s-eq1 c = lo-none _ c.if-s-eq1.true
 pub bounds-s-1 : goal.bounds-s-1
 bounds-s-1 c = tall _ c.requires c.if-s-eq1.false
 
-pub slice-bounds-result-end-2 : goal.slice-bounds-result-end-2
-slice-bounds-result-end-2 c = within _ c.requires c.if-s-eq1.false
+pub slice_bounds-result-end-2 : goal.slice_bounds-result-end-2
+slice_bounds-result-end-2 c = within _ c.requires c.if-s-eq1.false
 
 pub returns : goal.returns
 returns c = lo_some _ c.if-s-eq1.false

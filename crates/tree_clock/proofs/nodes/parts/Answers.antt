@@ -4,8 +4,8 @@ use Rattle.tree_clock.proofs.nodes.parts.Goals as goal
 pub bounds-nodes-0 : goal.bounds-nodes-0
 bounds-nodes-0 c = stored_some _ c.requires
 
-pub slice-bounds-result-end : goal.slice-bounds-result-end
-slice-bounds-result-end c = stored_within _ c.requires
+pub slice_bounds-result-end : goal.slice_bounds-result-end
+slice_bounds-result-end c = stored_within _ c.requires
 
 pub returns : goal.returns
 returns c = stored_parts _

@@ -4,14 +4,14 @@ use Rattle.tree_rules.proofs.Norms.{base-top}
 use Rattle.tree_clock.proofs.Closing.{laid_long, laid_mid, roots, close_same, close_other, Apart, length_writes}
 use Rattle.tree_clock.proofs.norm.close.Goals as goal
 
-pub slice-copy-out·l : goal.slice-copy-out·l
-slice-copy-out·l c = omega (arith, laid_long _ _ _ _ _ c.requires.2, laid_mid _ _ _ _ _ c.requires.2)
+pub slice_copy_out-l : goal.slice_copy_out-l
+slice_copy_out-l c = omega (arith, laid_long _ _ _ _ _ c.requires.2, laid_mid _ _ _ _ _ c.requires.2)
 
-pub slice-copy-out·u : goal.slice-copy-out·u
-slice-copy-out·u c = omega (arith, laid_long _ _ _ _ _ c.requires.2, laid_mid _ _ _ _ _ c.requires.2)
+pub slice_copy_out-u : goal.slice_copy_out-u
+slice_copy_out-u c = omega (arith, laid_long _ _ _ _ _ c.requires.2, laid_mid _ _ _ _ _ c.requires.2)
 
-pub overflow-add-out : goal.overflow-add-out
-overflow-add-out c = omega (arith, roots _ _ _ _ _ c.requires.2, base-top c.requires.0, c.requires.5)
+pub overflow_add-out : goal.overflow_add-out
+overflow_add-out c = omega (arith, roots _ _ _ _ _ c.requires.2, base-top c.requires.0, c.requires.5)
 
 pub returns-then-l-u : goal.returns-then-l-u
 returns-then-l-u c = record { stands = λ l r w nl nr. close_same _ _ _ _ c.if-l-eq1.true c.if-u-eq1.true c.if-l-u.true l r w; long = length-set _ _ _ }
@@ -22,8 +22,8 @@ bounds-out-1 c = omega (arith, laid_long _ _ _ _ _ c.requires.2, laid_mid _ _ _ 
 pub bounds-out-mid : goal.bounds-out-mid
 bounds-out-mid c = rw length-set (omega (arith, laid_long _ _ _ _ _ c.requires.2, laid_mid _ _ _ _ _ c.requires.2))
 
-pub overflow-add-out-2 : goal.overflow-add-out-2
-overflow-add-out-2 c = omega (arith, roots _ _ _ _ _ c.requires.2, base-top c.requires.0, c.requires.5)
+pub overflow_add-out-2 : goal.overflow_add-out-2
+overflow_add-out-2 c = omega (arith, roots _ _ _ _ _ c.requires.2, base-top c.requires.0, c.requires.5)
 
 pub returns : goal.returns
 returns c =

@@ -4,23 +4,23 @@ use Rattle.tree_clock.proofs.Branches.{flat_of, lower_less, upper_less, lower_fl
 use Rattle.tree_clock.proofs.Overlapping.{first_zero, second_zero, first_one, second_one, lower_meets, upper_tells}
 use Rattle.tree_clock.proofs.sum.+overlaps.Goals as goal
 
-pub returns-then-is-zero : goal.returns-then-is-zero
-returns-then-is-zero t c = first_zero _ _ _ c.is-zero.ensures c.if-is-zero.true
+pub returns-then-is_zero : goal.returns-then-is_zero
+returns-then-is_zero t c = first_zero _ _ _ c.is_zero.ensures c.if-is_zero.true
 
-pub returns-then-is-zero-2 : goal.returns-then-is-zero-2
-returns-then-is-zero-2 t c = second_zero _ _ _ c.is-zero-2.ensures c.if-is-zero-2.true
+pub returns-then-is_zero-2 : goal.returns-then-is_zero-2
+returns-then-is_zero-2 t c = second_zero _ _ _ c.is_zero-2.ensures c.if-is_zero-2.true
 
 pub bounds-a-0 : goal.bounds-a-0
 bounds-a-0 t c = some _ (flat_of _ c.requires.0)
 
 pub returns-then-a-eq1 : goal.returns-then-a-eq1
-returns-then-a-eq1 t c = first_one _ _ _ _ c.is-zero.ensures c.is-zero-2.ensures c.if-is-zero.false c.if-is-zero-2.false c.if-a-eq1.true
+returns-then-a-eq1 t c = first_one _ _ _ _ c.is_zero.ensures c.is_zero-2.ensures c.if-is_zero.false c.if-is_zero-2.false c.if-a-eq1.true
 
 pub bounds-b-0 : goal.bounds-b-0
 bounds-b-0 t c = some _ (flat_of _ c.requires.1)
 
 pub returns-then-b-eq1 : goal.returns-then-b-eq1
-returns-then-b-eq1 t c = second_one _ _ _ _ c.is-zero.ensures c.is-zero-2.ensures c.if-is-zero.false c.if-is-zero-2.false c.if-b-eq1.true
+returns-then-b-eq1 t c = second_one _ _ _ _ c.is_zero.ensures c.is_zero-2.ensures c.if-is_zero.false c.if-is_zero-2.false c.if-b-eq1.true
 
 pub overlaps-requires : goal.overlaps-requires
 overlaps-requires t c =

@@ -12,20 +12,20 @@ parts-requires c = clock_parts _ c.requires.made.0
 pub parts-requires-2 : goal.parts-requires-2
 parts-requires-2 c = clock_parts _ c.requires.made.1
 
-pub join-into-n-requires : goal.join-into-n-requires
-join-into-n-requires c =
+pub join_into-n-requires : goal.join_into-n-requires
+join_into-n-requires c =
     let a = clock_short _ c.requires.made.0 _ c.parts.ensures in
     let b = clock_short _ c.requires.made.1 _ c.parts-2.ensures in
     let d = c.desk-out.ensures in
     record { below = (clock_under _ c.requires.made.0 _ c.parts.ensures, clock_under _ c.requires.made.1 _ c.parts-2.ensures); room = (omega arith, omega arith) }
 
-pub returns-then-n-gt-MOST-NODES : goal.returns-then-n-gt-MOST-NODES
-returns-then-n-gt-MOST-NODES c = record { result = join_large _ _ c.requires.made.0 c.requires.made.1 _ _ c.parts.ensures c.parts-2.ensures _ _ c.join-into-n.ensures.stands _ _ c.if-n-gt-MOST-NODES.true c.of.ensures; marks = tt }
+pub returns-then-n-gt-MOST_NODES : goal.returns-then-n-gt-MOST_NODES
+returns-then-n-gt-MOST_NODES c = record { result = join_large _ _ c.requires.made.0 c.requires.made.1 _ _ c.parts.ensures c.parts-2.ensures _ _ c.join_into-n.ensures.stands _ _ c.if-n-gt-MOST_NODES.true c.of.ensures; marks = tt }
 
 pub store-requires : goal.store-requires
-store-requires c = front_short _ _ 63 c.if-n-gt-MOST-NODES.false
+store-requires c = front_short _ _ 63 c.if-n-gt-MOST_NODES.false
 
 pub returns : goal.returns
 returns c =
-    let e = join-done _ _ c.requires.made.0 c.requires.made.1 _ _ c.parts.ensures c.parts-2.ensures _ _ c.join-into-n.ensures.stands _ c.if-n-gt-MOST-NODES.false c.store.ensures in
+    let e = join-done _ _ c.requires.made.0 c.requires.made.1 _ _ c.parts.ensures c.parts-2.ensures _ _ c.join_into-n.ensures.stands _ c.if-n-gt-MOST_NODES.false c.store.ensures in
     record { result = e; marks = join-has tree_kind tree_kind_sound _ _ c.requires.made.0 c.requires.made.1 _ e }

@@ -9,21 +9,21 @@ use Rattle.tree_clock.proofs.pens.TreePen.fork.Goals as goal
 pub parts-id-requires : goal.parts-id-requires
 parts-id-requires c = pen_parts _ c.requires.made
 
-pub cannot-split-requires : goal.cannot-split-requires
-cannot-split-requires c =
+pub cannot_split-requires : goal.cannot_split-requires
+cannot_split-requires c =
     let f = pen_facts _ c.requires.made in
     (_, pen_flat _ c.requires.made _ c.parts-id.ensures, f.1, f.2)
 
-pub returns-then-cannot-split : goal.returns-then-cannot-split
-returns-then-cannot-split c = record { result = fork_refused _ c.requires.made _ c.parts-id.ensures _ c.cannot-split.ensures _ _ c.if-cannot-split.true c.of.ensures; marks = tt }
+pub returns-then-cannot_split : goal.returns-then-cannot_split
+returns-then-cannot_split c = record { result = fork_refused _ c.requires.made _ c.parts-id.ensures _ c.cannot_split.ensures _ _ c.if-cannot_split.true c.of.ensures; marks = tt }
 
-pub half-of-requires : goal.half-of-requires
-half-of-requires c = half_fits _ c.requires.made _ c.parts-id.ensures _ c.cannot-split.ensures c.if-cannot-split.false false
+pub half_of-requires : goal.half_of-requires
+half_of-requires c = half_fits _ c.requires.made _ c.parts-id.ensures _ c.cannot_split.ensures c.if-cannot_split.false false
 
-pub half-of-requires-2 : goal.half-of-requires-2
-half-of-requires-2 c = half_fits _ c.requires.made _ c.parts-id.ensures _ c.cannot-split.ensures c.if-cannot-split.false true
+pub half_of-requires-2 : goal.half_of-requires-2
+half_of-requires-2 c = half_fits _ c.requires.made _ c.parts-id.ensures _ c.cannot_split.ensures c.if-cannot_split.false true
 
 pub returns : goal.returns
 returns c =
-    let e = fork_done _ c.requires.made _ c.parts-id.ensures _ c.cannot-split.ensures c.if-cannot-split.false _ _ c.half-of.ensures c.half-of-2.ensures in
+    let e = fork_done _ c.requires.made _ c.parts-id.ensures _ c.cannot_split.ensures c.if-cannot_split.false _ _ c.half_of.ensures c.half_of-2.ensures in
     record { result = e; marks = fork_has tree_kind tree_kind_sound _ c.requires.made _ e }

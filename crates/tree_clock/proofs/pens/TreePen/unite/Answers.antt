@@ -18,20 +18,20 @@ overlaps-requires c = (pen_flat_id _ c.requires.made.0 _ c.parts-a.ensures, pen_
 pub returns-then-overlaps : goal.returns-then-overlaps
 returns-then-overlaps c = record { result = unite_overlaps _ _ c.requires.made.0 c.requires.made.1 _ _ c.parts-a.ensures c.parts-b.ensures _ c.overlaps.ensures _ _ c.if-overlaps.true c.of.ensures; marks = tt }
 
-pub join-into-n-requires : goal.join-into-n-requires
-join-into-n-requires c =
+pub join_into-n-requires : goal.join_into-n-requires
+join_into-n-requires c =
     let a = pen_short _ c.requires.made.0 _ c.parts-a.ensures in
     let b = pen_short _ c.requires.made.1 _ c.parts-b.ensures in
     let d = c.desk-out.ensures in
     record { below = (pen_under _ c.requires.made.0 _ c.parts-a.ensures, pen_under _ c.requires.made.1 _ c.parts-b.ensures); room = (omega arith, omega arith) }
 
-pub returns-then-n-gt-MOST-NODES : goal.returns-then-n-gt-MOST-NODES
-returns-then-n-gt-MOST-NODES c = record { result = unite_large _ _ c.requires.made.0 c.requires.made.1 _ _ c.parts-a.ensures c.parts-b.ensures _ c.overlaps.ensures c.if-overlaps.false _ _ c.join-into-n.ensures.stands _ _ c.if-n-gt-MOST-NODES.true c.of-then-n-gt-MOST-NODES.ensures; marks = tt }
+pub returns-then-n-gt-MOST_NODES : goal.returns-then-n-gt-MOST_NODES
+returns-then-n-gt-MOST_NODES c = record { result = unite_large _ _ c.requires.made.0 c.requires.made.1 _ _ c.parts-a.ensures c.parts-b.ensures _ c.overlaps.ensures c.if-overlaps.false _ _ c.join_into-n.ensures.stands _ _ c.if-n-gt-MOST_NODES.true c.of-then-n-gt-MOST_NODES.ensures; marks = tt }
 
 pub store-requires : goal.store-requires
-store-requires c = front_short _ _ 63 c.if-n-gt-MOST-NODES.false
+store-requires c = front_short _ _ 63 c.if-n-gt-MOST_NODES.false
 
 pub returns : goal.returns
 returns c =
-    let e = unite_done _ _ c.requires.made.0 c.requires.made.1 _ _ c.parts-a.ensures c.parts-b.ensures _ c.overlaps.ensures c.if-overlaps.false _ _ c.join-into-n.ensures.stands _ c.if-n-gt-MOST-NODES.false c.store.ensures in
+    let e = unite_done _ _ c.requires.made.0 c.requires.made.1 _ _ c.parts-a.ensures c.parts-b.ensures _ c.overlaps.ensures c.if-overlaps.false _ _ c.join_into-n.ensures.stands _ c.if-n-gt-MOST_NODES.false c.store.ensures in
     record { result = e; marks = unite_has tree_kind tree_kind_sound _ _ c.requires.made.0 c.requires.made.1 _ e }

@@ -9,8 +9,8 @@ use Rattle.vector_clock.proofs.pens.Names.halves.Goals.{then-held, else-held, th
 pub loop-i-init : goal.loop-i-init
 loop-i-init g c = (refl, filled_none false (keeps c.args.self.now) g.row.N, filled_none false (gives c.args.self.now) g.row.N)
 
-pub overflow-add-seen : goal.overflow-add-seen
-overflow-add-seen g c = omega (arith, at_most (in_pen c.args.self.now) c.loop-i.i)
+pub overflow_add-seen : goal.overflow_add-seen
+overflow_add-seen g c = omega (arith, at_most (in_pen c.args.self.now) c.loop-i.i)
 
 pub loop-i-preserved : goal.loop-i-preserved
 loop-i-preserved g c =

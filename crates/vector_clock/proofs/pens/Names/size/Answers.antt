@@ -4,8 +4,8 @@ use Rattle.vector_clock.specs.Numbers.{at_most, more_yes, more_no}
 use Rattle.vector_clock.proofs.pens.Names.size.Goals as goal
 use Rattle.vector_clock.proofs.pens.Names.size.Goals.{then-self-i, else-self-i}
 
-pub overflow-add-size : goal.overflow-add-size
-overflow-add-size g c = omega (arith, at_most (in_pen c.args.self.now) c.loop-i.i)
+pub overflow_add-size : goal.overflow_add-size
+overflow_add-size g c = omega (arith, at_most (in_pen c.args.self.now) c.loop-i.i)
 
 pub loop-i-preserved : goal.loop-i-preserved
 loop-i-preserved g c =
