@@ -2,9 +2,8 @@ ghost use Rattle.std.specs.Prelude.{◌≡◌, []};
 ghost use Rattle.history.specs.Tables.{sizes, Made};
 ghost use Rattle.history.specs.Checks.{left};
 ghost use Rattle.history.specs.Edit.{edit_plain, edit_result};
-ghost use Rattle.history.specs.Calls.{Call, edit as edit-call};
+ghost use Rattle.history.specs.Calls.{Call, edit as edit_call};
 ghost use Rattle.history.specs.Law.{LawfulAt};
-ghost use Rattle.yard_cards.specs.Cards.{card_sizes};
 ghost use Rattle.yard_checks.specs.Passing.{all_pass};
 
 use clock::{Clock, Fault};
@@ -59,9 +58,9 @@ pub fn edit<C: Clock, P: Copy>(
     payload: P,
 ) -> Result<(), Fault>
     requires made { Made C.Clock.meaning berths.now copies.old }
-    ensures result { left result berths.now copies.new [] ≡ edit_result C.Clock.meaning (card_sizes card.now) berths.now copies.old a f payload }
+    ensures result { left result berths.now copies.new [] ≡ edit_result C.Clock.meaning (sizes card.now.berths card.now.files) berths.now copies.old a f payload }
     ensures made { Made C.Clock.meaning berths.now copies.new }
-    ensures history { LawfulAt C.Clock.meaning (edit-call (card_sizes card.now) a f payload) berths.now copies.old (left result berths.now copies.new []) }
+    ensures history { LawfulAt C.Clock.meaning (edit_call (sizes card.now.berths card.now.files) a f payload) berths.now copies.old (left result berths.now copies.new []) }
 {
     edit_copy(card.berths(), card.files(), berths, copies, a, f, payload)
 }

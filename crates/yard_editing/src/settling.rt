@@ -4,9 +4,8 @@ ghost use Rattle.clock.specs.declared.causes.Cause.TheVariants.{NoConflict};
 ghost use Rattle.history.specs.Tables.{sizes, is_conflict, Made};
 ghost use Rattle.history.specs.Checks.{fault, left};
 ghost use Rattle.history.specs.Settle.{settle_plain, settle_result};
-ghost use Rattle.history.specs.Calls.{settle as settle-call};
+ghost use Rattle.history.specs.Calls.{settle as settle_call};
 ghost use Rattle.history.specs.Law.{LawfulAt};
-ghost use Rattle.yard_cards.specs.Cards.{card_sizes};
 ghost use Rattle.yard_checks.specs.Passing.{passing, all_pass};
 ghost use Rattle.yard_checks.specs.Ready.{Ready};
 ghost use Rattle.yard_editing.specs.Settling.{settle_late};
@@ -107,9 +106,9 @@ pub fn settle<C: Clock, P: Copy>(
     payload: P,
 ) -> Result<(), Fault>
     requires made { Made C.Clock.meaning berths.now copies.old }
-    ensures result { left result berths.now copies.new [] ≡ settle_result C.Clock.meaning (card_sizes card.now) berths.now copies.old a b f payload }
+    ensures result { left result berths.now copies.new [] ≡ settle_result C.Clock.meaning (sizes card.now.berths card.now.files) berths.now copies.old a b f payload }
     ensures made { Made C.Clock.meaning berths.now copies.new }
-    ensures history { LawfulAt C.Clock.meaning (settle-call (card_sizes card.now) a b f payload) berths.now copies.old (left result berths.now copies.new []) }
+    ensures history { LawfulAt C.Clock.meaning (settle_call (sizes card.now.berths card.now.files) a b f payload) berths.now copies.old (left result berths.now copies.new []) }
 {
     settle_berth(
         card.berths(),

@@ -2,9 +2,8 @@ ghost use Rattle.std.specs.Prelude.{◌≡◌, []};
 ghost use Rattle.history.specs.Tables.{sizes, Made};
 ghost use Rattle.history.specs.Checks.{left};
 ghost use Rattle.history.specs.Drop.{drop_checks, drop_result};
-ghost use Rattle.history.specs.Calls.{drop as drop-call};
+ghost use Rattle.history.specs.Calls.{drop as drop_call};
 ghost use Rattle.history.specs.Law.{LawfulAt};
-ghost use Rattle.yard_cards.specs.Cards.{card_sizes};
 ghost use Rattle.yard_checks.specs.Passing.{all_pass};
 
 use clock::{Clock, Fault};
@@ -54,9 +53,9 @@ pub fn drop<C: Clock, P: Copy>(
     a: usize,
 ) -> Result<(), Fault>
     requires made { Made C.Clock.meaning berths.old copies.now }
-    ensures result { left result berths.new copies.now [] ≡ drop_result C.Clock.meaning (card_sizes card.now) berths.old copies.now a }
+    ensures result { left result berths.new copies.now [] ≡ drop_result C.Clock.meaning (sizes card.now.berths card.now.files) berths.old copies.now a }
     ensures made { Made C.Clock.meaning berths.new copies.now }
-    ensures history { LawfulAt C.Clock.meaning (drop-call (card_sizes card.now) a) berths.old copies.now (left result berths.new copies.now []) }
+    ensures history { LawfulAt C.Clock.meaning (drop_call (sizes card.now.berths card.now.files) a) berths.old copies.now (left result berths.new copies.now []) }
 {
     drop_berth(card.berths(), card.files(), berths, copies, a)
 }

@@ -2,9 +2,8 @@ ghost use Rattle.std.specs.Prelude.{◌≡◌, [], length, ◌≢◌};
 ghost use Rattle.history.specs.Tables.{sizes, Made, row, copy_from};
 ghost use Rattle.history.specs.Checks.{left};
 ghost use Rattle.history.specs.Fork.{fork_plain, fork_result};
-ghost use Rattle.history.specs.Calls.{fork as fork-call};
+ghost use Rattle.history.specs.Calls.{fork as fork_call};
 ghost use Rattle.history.specs.Law.{LawfulAt};
-ghost use Rattle.yard_cards.specs.Cards.{card_sizes};
 ghost use Rattle.yard_checks.specs.Passing.{all_pass};
 ghost use Rattle.yard_checks.specs.Ready.{Ready};
 
@@ -87,9 +86,9 @@ pub fn fork<C: Clock, P: Copy>(
     b: usize,
 ) -> Result<(), Fault>
     requires made { Made C.Clock.meaning berths.old copies.old }
-    ensures result { left result berths.new copies.new [] ≡ fork_result C.Clock.meaning (card_sizes card.now) berths.old copies.old a b }
+    ensures result { left result berths.new copies.new [] ≡ fork_result C.Clock.meaning (sizes card.now.berths card.now.files) berths.old copies.old a b }
     ensures made { Made C.Clock.meaning berths.new copies.new }
-    ensures history { LawfulAt C.Clock.meaning (fork-call (card_sizes card.now) a b) berths.old copies.old (left result berths.new copies.new []) }
+    ensures history { LawfulAt C.Clock.meaning (fork_call (sizes card.now.berths card.now.files) a b) berths.old copies.old (left result berths.new copies.new []) }
 {
     fork_berth(card.berths(), card.files(), berths, copies, a, b)
 }

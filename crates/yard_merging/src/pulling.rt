@@ -2,9 +2,8 @@ ghost use Rattle.std.specs.Prelude.{◌≡◌, ◌≤◌, length, ◌≢◌};
 ghost use Rattle.history.specs.Tables.{sizes, Made, row, newer_from, judged, reported, count, is_stale, is_conflict};
 ghost use Rattle.history.specs.Checks.{left};
 ghost use Rattle.history.specs.Pull.{pull_checks, pull_result};
-ghost use Rattle.history.specs.Calls.{pull as pull-call};
+ghost use Rattle.history.specs.Calls.{pull as pull_call};
 ghost use Rattle.history.specs.Law.{LawfulAt};
-ghost use Rattle.yard_cards.specs.Cards.{card_sizes};
 ghost use Rattle.yard_checks.specs.Passing.{all_pass};
 ghost use Rattle.yard_checks.specs.Ready.{Ready};
 ghost use Rattle.yard_checks.specs.Entries.{Clocks};
@@ -96,9 +95,9 @@ pub fn pull<C: Clock, P: Copy>(
     b: usize,
 ) -> Result<(usize, usize), Fault>
     requires made { Made C.Clock.meaning berths.now copies.old }
-    ensures result { left result berths.now copies.new bytes.new ≡ pull_result C.Clock.meaning (card_sizes card.now) berths.now copies.old a b bytes.old }
+    ensures result { left result berths.now copies.new bytes.new ≡ pull_result C.Clock.meaning (sizes card.now.berths card.now.files) berths.now copies.old a b bytes.old }
     ensures made { Made C.Clock.meaning berths.now copies.new }
-    ensures history { LawfulAt C.Clock.meaning (pull-call (card_sizes card.now) a b bytes.old) berths.now copies.old (left result berths.now copies.new bytes.new) }
+    ensures history { LawfulAt C.Clock.meaning (pull_call (sizes card.now.berths card.now.files) a b bytes.old) berths.now copies.old (left result berths.now copies.new bytes.new) }
 {
     pull_copies(card.berths(), card.files(), berths, copies, bytes, a, b)
 }

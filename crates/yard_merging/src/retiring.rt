@@ -4,9 +4,8 @@ ghost use Rattle.history.specs.Tables.{sizes, pen_at, working_berth, Made};
 ghost use Rattle.history.specs.declared.tables.State.TheVariants.{Empty};
 ghost use Rattle.history.specs.Checks.{left, some_conflict};
 ghost use Rattle.history.specs.Retire.{retire_plain, retire_result};
-ghost use Rattle.history.specs.Calls.{retire as retire-call};
+ghost use Rattle.history.specs.Calls.{retire as retire_call};
 ghost use Rattle.history.specs.Law.{LawfulAt};
-ghost use Rattle.yard_cards.specs.Cards.{card_sizes};
 ghost use Rattle.yard_checks.specs.Passing.{passing, all_pass};
 ghost use Rattle.yard_checks.specs.Ready.{Ready};
 ghost use Rattle.yard_checks.specs.Entries.{Clocks, Pens};
@@ -131,9 +130,9 @@ pub fn retire<C: Clock, P: Copy>(
     b: usize,
 ) -> Result<(), Fault>
     requires made { Made C.Clock.meaning berths.old copies.old }
-    ensures result { left result berths.new copies.new [] ≡ retire_result C.Clock.meaning (card_sizes card.now) berths.old copies.old a b }
+    ensures result { left result berths.new copies.new [] ≡ retire_result C.Clock.meaning (sizes card.now.berths card.now.files) berths.old copies.old a b }
     ensures made { Made C.Clock.meaning berths.new copies.new }
-    ensures history { LawfulAt C.Clock.meaning (retire-call (card_sizes card.now) a b) berths.old copies.old (left result berths.new copies.new []) }
+    ensures history { LawfulAt C.Clock.meaning (retire_call (sizes card.now.berths card.now.files) a b) berths.old copies.old (left result berths.new copies.new []) }
 {
     retire_berth(card.berths(), card.files(), berths, copies, a, b)
 }

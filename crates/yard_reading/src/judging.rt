@@ -2,7 +2,7 @@ ghost use Rattle.std.specs.Prelude.{◌≡◌, []};
 ghost use Rattle.history.specs.Tables.{sizes, Made};
 ghost use Rattle.history.specs.Checks.{left};
 ghost use Rattle.history.specs.Judge.{judge_checks, judge_result};
-ghost use Rattle.history.specs.Calls.{judge as judge-call};
+ghost use Rattle.history.specs.Calls.{judge as judge_call};
 ghost use Rattle.history.specs.Law.{LawfulAt};
 ghost use Rattle.yard_checks.specs.Passing.{all_pass};
 
@@ -61,7 +61,7 @@ pub fn judge<K: Card, C: Clock, P: Copy>(
 ) -> Result<Verdict, Fault>
     requires made { Made C.Clock.meaning berths.now copies.now }
     ensures result { left result berths.now copies.now [] ≡ judge_result C.Clock.meaning (K.Card.sizes card.now) berths.now copies.now a b f }
-    ensures history { LawfulAt C.Clock.meaning (judge-call (K.Card.sizes card.now) a b f) berths.now copies.now (left result berths.now copies.now []) }
+    ensures history { LawfulAt C.Clock.meaning (judge_call (K.Card.sizes card.now) a b f) berths.now copies.now (left result berths.now copies.now []) }
 {
     judge_copies(card.berths(), card.files(), berths, copies, a, b, f)
 }

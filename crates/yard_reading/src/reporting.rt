@@ -1,8 +1,8 @@
 ghost use Rattle.std.specs.Prelude.{◌≡◌, ◌≤◌, length};
 ghost use Rattle.history.specs.Tables.{sizes, Made, judged, reported};
 ghost use Rattle.history.specs.Checks.{left};
-ghost use Rattle.history.specs.Report.{report_checks, report_result, counts, twins as twins-of};
-ghost use Rattle.history.specs.Calls.{report as report-call};
+ghost use Rattle.history.specs.Report.{report_checks, report_result, counts, twins as twins_of};
+ghost use Rattle.history.specs.Calls.{report as report_call};
 ghost use Rattle.history.specs.Law.{LawfulCall};
 ghost use Rattle.yard_checks.specs.Passing.{all_pass};
 ghost use Rattle.yard_checks.specs.Ready.{Ready};
@@ -44,7 +44,7 @@ fn report_files<C: Clock, P: Payload>(
     requires ready { (Ready (sizes many files) many (length copies.now) a b) × (files ≤ length bytes.old) }
     requires made { Clocks C.Clock.meaning copies.now }
     ensures bytes { bytes.new ≡ reported files (judged C.Clock.meaning files copies.now a b) bytes.old }
-    ensures counts { result ≡ counts files (judged C.Clock.meaning files copies.now a b) (twins-of files copies.now P.Payload.same a b) }
+    ensures counts { result ≡ counts files (judged C.Clock.meaning files copies.now a b) (twins_of files copies.now P.Payload.same a b) }
 {
     let mut equal = 0;
     let mut stale = 0;
@@ -101,7 +101,7 @@ pub fn report<K: Card, C: Clock, P: Payload>(
 ) -> Result<(usize, usize, usize, usize, usize), Fault>
     requires made { Made C.Clock.meaning berths.now copies.now }
     ensures result { left result berths.now copies.now bytes.new ≡ report_result C.Clock.meaning (K.Card.sizes card.now) berths.now copies.now P.Payload.same a b bytes.old }
-    ensures history { LawfulCall C.Clock.meaning P.Payload.same (report-call (K.Card.sizes card.now) a b bytes.old) berths.now copies.now (left result berths.now copies.now bytes.new) }
+    ensures history { LawfulCall C.Clock.meaning P.Payload.same (report_call (K.Card.sizes card.now) a b bytes.old) berths.now copies.now (left result berths.now copies.now bytes.new) }
 {
     report_copies(card.berths(), card.files(), berths, copies, bytes, a, b)
 }

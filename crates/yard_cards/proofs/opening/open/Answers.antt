@@ -10,25 +10,25 @@ use Rattle.yard_checks.proofs.Outcomes.{passing_ok}
 use Rattle.yard_cards.proofs.OpenTables.{open_refused, open_done, open_made, open_lawful}
 use Rattle.yard_cards.proofs.opening.open.Goals as goal
 
-pub returns-in-err-check-sizes : goal.returns-in-err-check-sizes
-returns-in-err-check-sizes g c =
-    let p = err_from_is_err_and c.from-residual.result c.from-residual.ensures.1 in
+pub returns-in_err-check_sizes : goal.returns-in_err-check_sizes
+returns-in_err-check_sizes g c =
+    let p = err_from_is_err_and c.from_residual.result c.from_residual.ensures.1 in
     let q = p.1 ∙ ap Err p.2 in
-    let e = open_refused g.C.Clock.meaning c.args.berths.now c.args.copies.now c.args.payloads.now c.in-err-check-sizes.field-0.0 (opened_with c.from-residual.result) c.in-err-check-sizes.ensures (ap opened_with q) in
+    let e = open_refused g.C.Clock.meaning c.args.berths.now c.args.copies.now c.args.payloads.now c.in_err-check_sizes.field-0.0 (opened_with c.from_residual.result) c.in_err-check_sizes.ensures (ap opened_with q) in
     record {
       result = e;
       made = subst (λ (r : Result OpenCard Fault). WhenOk r (Made g.C.Clock.meaning c.args.berths.now c.args.copies.now)) (sym q) tt;
       history = open_lawful g.C.Clock.meaning c.args.berths.now c.args.copies.now c.args.payloads.now g.met.C.Clock.sound _ e;
     }
 
-pub open-copies-requires : goal.open-copies-requires
-open-copies-requires g c = (fit (card_of c.args.berths.now c.args.payloads.now) c.args.berths.now c.args.copies.now (passing_ok _ c.in-ok-check-sizes.ensures)).some_files
+pub open_copies-requires : goal.open_copies-requires
+open_copies-requires g c = (fit (card_of c.args.berths.now c.args.payloads.now) c.args.berths.now c.args.copies.now (passing_ok _ c.in_ok-check_sizes.ensures)).some_files
 
 pub returns : goal.returns
 returns g c =
-    let e = open_done g.C.Clock.meaning c.args.berths.now c.args.copies.now c.args.payloads.now c.open-berths.new.berths c.open-copies.new.copies _ _ c.in-ok-check-sizes.ensures c.open-berths.ensures c.open-copies.ensures (omega arith) refl in
+    let e = open_done g.C.Clock.meaning c.args.berths.now c.args.copies.now c.args.payloads.now c.open_berths.new.berths c.open_copies.new.copies _ _ c.in_ok-check_sizes.ensures c.open_berths.ensures c.open_copies.ensures (omega arith) refl in
     record {
       result = e;
-      made = open_made g.C.Clock.meaning c.args.berths.now c.args.copies.now c.args.payloads.now g.met.C.Clock.sound _ _ c.open-berths.ensures c.open-copies.ensures;
+      made = open_made g.C.Clock.meaning c.args.berths.now c.args.copies.now c.args.payloads.now g.met.C.Clock.sound _ _ c.open_berths.ensures c.open_copies.ensures;
       history = open_lawful g.C.Clock.meaning c.args.berths.now c.args.copies.now c.args.payloads.now g.met.C.Clock.sound _ e;
     }

@@ -8,8 +8,8 @@ loop-b-init g c = (sym (upto-none (berth_rule g.C.Clock.meaning) c.args.berths.n
 
 pub loop-b-preserved : goal.loop-b-preserved
 loop-b-preserved g c = (
-  upto_write (berth_rule g.C.Clock.meaning) c.args.berths.now c.loop-b.berths c.loop-b.b c.opening-berth.result (omega arith) c.loop-b.invariant.0 (λ x. c.opening-berth.ensures),
-  length-set c.loop-b.berths c.loop-b.b c.opening-berth.result ∙ c.loop-b.invariant.1,
+  upto_write (berth_rule g.C.Clock.meaning) c.args.berths.now c.loop-b.berths c.loop-b.b c.opening_berth.result (omega arith) c.loop-b.invariant.0 (λ x. c.opening_berth.ensures),
+  length-set c.loop-b.berths c.loop-b.b c.opening_berth.result ∙ c.loop-b.invariant.1,
 )
 
 pub returns : goal.returns

@@ -9,7 +9,7 @@ use Rattle.yard_editing.proofs.settling.settle.Goals as goal
 pub returns : goal.returns
 returns g c =
     let call = settle (card_sizes c.args.card.now) c.args.a c.args.b c.args.f c.args.payload in
-    let e = c.settle-berth.ensures ∙ (λ k. settle_result g.C.Clock.meaning (sizes (c.berths.ensures k) (c.files.ensures k)) c.args.berths.now c.args.copies.now c.args.a c.args.b c.args.f c.args.payload) in
+    let e = c.settle_berth.ensures ∙ (λ k. settle_result g.C.Clock.meaning (sizes (c.berths.ensures k) (c.files.ensures k)) c.args.berths.now c.args.copies.now c.args.a c.args.b c.args.f c.args.payload) in
     record {
       result = e;
       made = made_from g.C.Clock.meaning g.met.C.Clock.sound any call c.args.berths.now c.args.copies.now _ e c.requires.made;

@@ -5,19 +5,19 @@ use Rattle.yard_checks.proofs.Checked.{settle_ready}
 use Rattle.yard_editing.proofs.Settled.{settle_checked, settle_goes_on}
 use Rattle.yard_editing.proofs.settling.settle_berth.Goals as goal
 
-pub returns-in-err-check-settle : goal.returns-in-err-check-settle
-returns-in-err-check-settle g c =
-    let p = err_from_is_err_and c.from-residual.result c.from-residual.ensures.1 in
+pub returns-in_err-check_settle : goal.returns-in_err-check_settle
+returns-in_err-check_settle g c =
+    let p = err_from_is_err_and c.from_residual.result c.from_residual.ensures.1 in
     let card = sizes c.args.many c.args.files in
-    settle_checked g.C.Clock.meaning card c.args.berths.now c.args.copies.now c.args.a c.args.b c.args.f c.args.payload c.in-err-check-settle.field-0.0 c.from-residual.result c.in-err-check-settle.ensures (p.1 ∙ ap Err p.2)
+    settle_checked g.C.Clock.meaning card c.args.berths.now c.args.copies.now c.args.a c.args.b c.args.f c.args.payload c.in_err-check_settle.field-0.0 c.from_residual.result c.in_err-check_settle.ensures (p.1 ∙ ap Err p.2)
 
-pub settle-copy-requires : goal.settle-copy-requires
-settle-copy-requires g c = record {
+pub settle_copy-requires : goal.settle_copy-requires
+settle_copy-requires g c = record {
   made = c.requires.made;
-  ready = settle_ready (sizes c.args.many c.args.files) c.args.berths.now c.args.copies.now c.args.a c.args.b c.args.f c.in-ok-check-settle.ensures;
+  ready = settle_ready (sizes c.args.many c.args.files) c.args.berths.now c.args.copies.now c.args.a c.args.b c.args.f c.in_ok-check_settle.ensures;
 }
 
 pub returns : goal.returns
 returns g c =
     let card = sizes c.args.many c.args.files in
-    c.settle-copy.ensures ∙ settle_goes_on g.C.Clock.meaning card c.args.berths.now c.args.copies.now c.args.a c.args.b c.args.f c.args.payload c.in-ok-check-settle.ensures
+    c.settle_copy.ensures ∙ settle_goes_on g.C.Clock.meaning card c.args.berths.now c.args.copies.now c.args.a c.args.b c.args.f c.args.payload c.in_ok-check_settle.ensures

@@ -9,7 +9,7 @@ use Rattle.yard_forking.proofs.forking.fork.Goals as goal
 pub returns : goal.returns
 returns g c =
     let call = fork (card_sizes c.args.card.now) c.args.a c.args.b in
-    let e = c.fork-berth.ensures ∙ (λ k. fork_result g.C.Clock.meaning (sizes (c.berths.ensures k) (c.files.ensures k)) c.args.berths.now c.args.copies.now c.args.a c.args.b) in
+    let e = c.fork_berth.ensures ∙ (λ k. fork_result g.C.Clock.meaning (sizes (c.berths.ensures k) (c.files.ensures k)) c.args.berths.now c.args.copies.now c.args.a c.args.b) in
     record {
       result = e;
       made = made_from g.C.Clock.meaning g.met.C.Clock.sound any call c.args.berths.now c.args.copies.now _ e c.requires.made;

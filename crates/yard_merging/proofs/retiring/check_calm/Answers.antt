@@ -18,7 +18,7 @@ returns-in-Conflict g c =
 pub loop-f-preserved : goal.loop-f-preserved
 loop-f-preserved g c =
     let v = c.compare-verdict.ensures ∙ verdict_read g.C.Clock.meaning c.args.files c.args.copies.now c.args.b c.args.a c.loop-f.f c.place-i.result c.place-j.result (get_or c.args.copies.now c.place-i.result c.index-copies-i.result) (get_or c.args.copies.now c.place-j.result c.index-copies-j.result) c.place-i.ensures.is c.place-j.ensures.is (slice_get-get_or c.args.copies.now c.place-i.result c.index-copies-i.result (omega arith)) (slice_get-get_or c.args.copies.now c.place-j.result c.index-copies-j.result (omega arith)) in
-    below_more _ _ c.loop-f.invariant (ap is_conflict (sym v) ∙ is_not_conflict c.compare-verdict.result c.in-default.not-Conflict)
+    below_more _ _ c.loop-f.invariant (ap is_conflict (sym v) ∙ is_not_conflict c.compare-verdict.result c.in_default.not-Conflict)
 
 pub returns : goal.returns
 returns g c =

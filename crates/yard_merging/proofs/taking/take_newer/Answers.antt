@@ -18,8 +18,8 @@ returns-in-Stale g c =
       copies = took_stale g.C.Clock.meaning c.args.copies.now c.args.i c.args.j _ _ ex ez c.compare-verdict.result c.compare-verdict.ensures c.in-Stale.is;
     }
 
-pub returns-in-default : goal.returns-in-default
-returns-in-default g c =
+pub returns-in_default : goal.returns-in_default
+returns-in_default g c =
     let ex = slice_get-get_or c.args.copies.now c.args.i c.index-copies-i.result c.requires.places.0 in
     let ez = slice_get_read c.args.copies.now (length c.args.copies.now) c.args.j c.index-copies-j.result refl c.requires.places.1 c.index-copies-j.is in
     record {

@@ -11,13 +11,13 @@ pub compare-verdict-requires : goal.compare-verdict-requires
 compare-verdict-requires g c =
     (c.requires.clocks c.place-i.result _ (slice_get-get_or c.args.copies.now c.place-i.result c.index-copies-i.result (search rules)), c.requires.clocks c.place-j.result _ (slice_get-get_or c.args.copies.now c.place-j.result c.index-copies-j.result (search rules)))
 
-pub returns-in-err-check-judge : goal.returns-in-err-check-judge
-returns-in-err-check-judge g c =
-    let p = err_from_is_err_and c.from-residual.result c.from-residual.ensures.1 in
-    refused c.args.berths.now c.args.copies.now [] _ _ c.in-err-check-judge.field-0.0 c.from-residual.result (refused_first (judge_checks (sizes c.args.many c.args.files) c.args.berths.now c.args.copies.now c.args.a c.args.b c.args.f) _ c.in-err-check-judge.ensures) (p.1 ∙ ap Err p.2)
+pub returns-in_err-check_judge : goal.returns-in_err-check_judge
+returns-in_err-check_judge g c =
+    let p = err_from_is_err_and c.from_residual.result c.from_residual.ensures.1 in
+    refused c.args.berths.now c.args.copies.now [] _ _ c.in_err-check_judge.field-0.0 c.from_residual.result (refused_first (judge_checks (sizes c.args.many c.args.files) c.args.berths.now c.args.copies.now c.args.a c.args.b c.args.f) _ c.in_err-check_judge.ensures) (p.1 ∙ ap Err p.2)
 
 pub returns : goal.returns
 returns g c =
     judge_done g.C.Clock.meaning (sizes c.args.many c.args.files) c.args.berths.now c.args.copies.now c.args.a c.args.b c.args.f c.place-i.result c.place-j.result (get_or c.args.copies.now c.place-i.result c.index-copies-i.result) (get_or c.args.copies.now c.place-j.result c.index-copies-j.result) c.compare-verdict.result
-    c.in-ok-check-judge.ensures c.place-i.ensures.is c.place-j.ensures.is
+    c.in_ok-check_judge.ensures c.place-i.ensures.is c.place-j.ensures.is
     (slice_get-get_or c.args.copies.now c.place-i.result c.index-copies-i.result (search rules)) (slice_get-get_or c.args.copies.now c.place-j.result c.index-copies-j.result (search rules)) c.compare-verdict.ensures

@@ -7,7 +7,7 @@ use Rattle.yard_reading.proofs.reporting.report.Goals as goal
 
 pub returns : goal.returns
 returns g c =
-    let e = c.report-copies.ensures ∙ (λ k. report_result g.C.Clock.meaning (sizes (c.berths.ensures k) (c.files.ensures k)) c.args.berths.now c.args.copies.now g.P.Payload.same c.args.a c.args.b c.args.bytes.now) in
+    let e = c.report_copies.ensures ∙ (λ k. report_result g.C.Clock.meaning (sizes (c.berths.ensures k) (c.files.ensures k)) c.args.berths.now c.args.copies.now g.P.Payload.same c.args.a c.args.b c.args.bytes.now) in
     record {
       result = e;
       history = lawful_from g.C.Clock.meaning g.met.C.Clock.sound g.P.Payload.same (report (g.K.Card.sizes c.args.card.now) c.args.a c.args.b c.args.bytes.now) c.args.berths.now c.args.copies.now _ e;
