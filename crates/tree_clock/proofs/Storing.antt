@@ -1,11 +1,23 @@
 -- A tree as it is copied and stored.
 use Rattle.std.proofs.Common.{◌≡◌, ℕ, zero, suc, ◌+◌, ◌-◌, ◌<◌, ◌≤◌, List, [], ◌∷◌, ◌++◌, length, get_or, take, drop, set, replicate, sym, refl, ap, ◌∙◌, ap₂, append_assoc, arith, length-append, length-drop, length-set, take_at}
 use borrow.Rule.Slice.PartMut.{post_of}
+use Rattle.std.specs.Bool.{Decides}
+use Rattle.std.specs.Ordering.{eq_of_both, on}
+use Rattle.std.proofs.lemmas.Bool.{and_parts, and_from, eqb-true, eq-eqb}
+use Rattle.std.proofs.Math.Dec.{eqb}
 use Rattle.std.proofs.lemmas.List.{drop-replicate}
 use Rattle.tree_rules.specs.Events.{Event, leaf, node, size}
 use Rattle.tree_clock.specs.declared.nodes.Node.{Node}
 use Rattle.tree_clock.specs.Flat.{flat, filler, pad, stored, Laid, Stands}
 use Rattle.tree_clock.specs.FlatForm.{first, flat_length, long}
+
+-- `==` of two nodes says whether they are one
+pub node_eq-Decides : (x y : Node) → Decides (eq_of_both (on (λ (v : Node). v.base) eqb) (on (λ (v : Node). v.size) eqb) x y) (x ≡ y)
+node_eq-Decides x y = (
+  λ e. let q = and_parts (eqb x.base y.base) (eqb x.size y.size) e in
+      ap₂ (λ (b n : ℕ). let v : Node = record { base = b; size = n } in v) (eqb-true x.base y.base q.0) (eqb-true x.size y.size q.1),
+  λ p. and_from (eqb x.base y.base) (eqb x.size y.size) (eq-eqb x.base y.base (ap (λ (v : Node). v.base) p)) (eq-eqb x.size y.size (ap (λ (v : Node). v.size) p)),
+)
 
 pub blank_pad : replicate 63 filler ≡ pad []
 unfolding pad

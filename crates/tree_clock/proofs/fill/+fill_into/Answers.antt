@@ -19,7 +19,7 @@ fill_into-mid-requires t c =
     let f = form_lo _ _ D E c.if-id-eq1.false c.if-e-eq1.false _ _ c.lower-l.ensures c.lower.ensures in
     let g = falls_lo _ _ D E c.if-id-eq1.false c.if-e-eq1.false _ _ c.lower-l.ensures c.lower.ensures in
     let p = from_long c.args.out.now 1 in
-    (omega arith, (f.0, (f.1, (omega arith, omega arith))))
+    (omega arith, (f, (omega arith, omega arith)))
 
 pub overflow_add-mid : goal.overflow_add-mid
 overflow_add-mid t c =
@@ -64,7 +64,7 @@ fill_into-requires t c =
     let h = falls_hi _ _ D E c.if-id-eq1.false c.if-e-eq1.false _ _ c.lower-l.ensures c.lower.ensures _ _ c.fill_into-mid.ensures.stands _ _ c.upper-r.ensures c.upper.ensures in
     let l = written_long c.args.out.now _ 1 (omega arith) c.fill_into-mid.ensures.long in
     let p = from_long (written c.args.out.now 1 c.fill_into-mid.new.out) (1 + c.fill_into-mid.result) in
-    (omega arith, (f.0, (f.1, (omega arith, omega arith))))
+    (omega arith, (f, (omega arith, omega arith)))
 
 pub overflow_add-end : goal.overflow_add-end
 overflow_add-end t c =

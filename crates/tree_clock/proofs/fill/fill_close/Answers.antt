@@ -18,7 +18,7 @@ raise-requires-then-r_one c =
 
 pub close-requires : goal.close-requires
 close-requires c =
-    raised_closes c.args.out.now _ _ _ c.args.l-one c.args.r-one _
+    raised_closes c.args.out.now _ _ _ c.args.l_one c.args.r_one _
     (elim c.if-l_one.branch [
       | then-l_one w ↦ raises_lower _ _ _ _ _ _ _ w.if-l_one.true (rw w.out-is w.raise.ensures.lower)
       | else-l_one+then-r_one w ↦ raises_upper _ _ _ _ _ _ _ w.if-l_one.false w.if-r_one.true (rw w.out-is w.raise-then-r_one.ensures.upper)
@@ -30,7 +30,7 @@ pub returns : goal.returns
 returns c =
     record {
       stands =
-          raised_stands c.args.out.now _ _ _ c.args.l-one c.args.r-one _
+          raised_stands c.args.out.now _ _ _ c.args.l_one c.args.r_one _
           (elim c.if-l_one.branch [
             | then-l_one w ↦ raises_lower _ _ _ _ _ _ _ w.if-l_one.true (rw w.out-is w.raise.ensures.lower)
             | else-l_one+then-r_one w ↦ raises_upper _ _ _ _ _ _ _ w.if-l_one.false w.if-r_one.true (rw w.out-is w.raise-then-r_one.ensures.upper)

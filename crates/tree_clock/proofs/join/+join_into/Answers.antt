@@ -37,7 +37,7 @@ join_into-mid-requires t c =
     let r = c.requires.room.0 in
     let s = c.requires.room.1 in
     let p = from_long c.args.out.now 1 in
-    (omega arith, (under_lo _ _ _ _ A c.lower.ensures (omega arith), (under_lo _ _ _ _ B c.lower-2.ensures (omega arith), (omega arith, omega arith))))
+    (omega arith, ((under_lo _ _ _ _ A c.lower.ensures (omega arith), under_lo _ _ _ _ B c.lower-2.ensures (omega arith)), (omega arith, omega arith)))
 
 pub overflow_add-mid : goal.overflow_add-mid
 overflow_add-mid t c =
@@ -97,7 +97,7 @@ join_into-requires t c =
     let s = c.requires.room.1 in
     let l1 = written_long c.args.out.now _ 1 (omega arith) c.join_into-mid.ensures.long in
     let p = from_long (written c.args.out.now 1 c.join_into-mid.new.out) (1 + c.join_into-mid.result) in
-    (omega arith, (under_hi _ _ _ _ A c.upper.ensures (omega arith), (under_hi _ _ _ _ B c.upper-2.ensures (omega arith), (omega arith, omega arith))))
+    (omega arith, ((under_hi _ _ _ _ A c.upper.ensures (omega arith), under_hi _ _ _ _ B c.upper-2.ensures (omega arith)), (omega arith, omega arith)))
 
 pub overflow_add-end : goal.overflow_add-end
 overflow_add-end t c =

@@ -9,7 +9,7 @@ use Rattle.tree_clock.proofs.PenOps.{pen_parts, pen_flat}
 use Rattle.tree_clock.proofs.Public.{front_short}
 use Rattle.tree_clock.proofs.EventOps.{event_spent, event_grows, event_fills, event_grown_id, event_grown_tree, fill_given, filled_stands, filled-size}
 use Rattle.tree_clock.proofs.clocks.TreeClock.event.Goals as goal
-use Rattle.std.proofs.lemmas.Bool.Decides.{Decides-eqb}
+use Rattle.tree_clock.proofs.Storing.{node_eq-Decides}
 
 pub parts-id-requires : goal.parts-id-requires
 parts-id-requires c = pen_parts _ c.requires.made.1
@@ -37,7 +37,7 @@ grown-requires c = (event_grown_id _ _ c.requires.made.1 c.requires.made.0 _ _ c
 
 pub returns-then-eq : goal.returns-then-eq
 returns-then-eq c =
-    let e = event_grows _ _ c.requires.made.1 c.requires.made.0 _ _ c.parts-id.ensures c.parts-e.ensures _ c.is_zero.ensures c.if-is_zero.false _ _ (filled_stands _ _ c.requires.made.1 c.requires.made.0 _ _ c.parts-id.ensures c.parts-e.ensures _ _ c.fill_into-n.ensures.stands) _ (slice_eq-Decides Decides-eqb _ _ _ c.eq.ensures) c.if-eq.true _ c.grown.ensures in
+    let e = event_grows _ _ c.requires.made.1 c.requires.made.0 _ _ c.parts-id.ensures c.parts-e.ensures _ c.is_zero.ensures c.if-is_zero.false _ _ (filled_stands _ _ c.requires.made.1 c.requires.made.0 _ _ c.parts-id.ensures c.parts-e.ensures _ _ c.fill_into-n.ensures.stands) _ (slice_eq-Decides node_eq-Decides _ _ _ c.eq.ensures) c.if-eq.true _ c.grown.ensures in
     record { result = e; marks = event-has tree_kind tree_kind_sound _ _ c.requires.made.1 c.requires.made.0 _ e }
 
 pub store-requires : goal.store-requires
@@ -45,5 +45,5 @@ store-requires c = front_short _ c.fill_into-n.result 63 (filled-size _ _ c.requ
 
 pub returns : goal.returns
 returns c =
-    let e = event_fills _ _ c.requires.made.1 c.requires.made.0 _ _ c.parts-id.ensures c.parts-e.ensures _ c.is_zero.ensures c.if-is_zero.false _ _ (filled_stands _ _ c.requires.made.1 c.requires.made.0 _ _ c.parts-id.ensures c.parts-e.ensures _ _ c.fill_into-n.ensures.stands) _ (slice_eq-Decides Decides-eqb _ _ _ c.eq.ensures) c.if-eq.false _ c.store.ensures in
+    let e = event_fills _ _ c.requires.made.1 c.requires.made.0 _ _ c.parts-id.ensures c.parts-e.ensures _ c.is_zero.ensures c.if-is_zero.false _ _ (filled_stands _ _ c.requires.made.1 c.requires.made.0 _ _ c.parts-id.ensures c.parts-e.ensures _ _ c.fill_into-n.ensures.stands) _ (slice_eq-Decides node_eq-Decides _ _ _ c.eq.ensures) c.if-eq.false _ c.store.ensures in
     record { result = e; marks = event-has tree_kind tree_kind_sound _ _ c.requires.made.1 c.requires.made.0 _ e }
