@@ -15,7 +15,7 @@ pub struct Replica<C: Clock> {
 impl<C: Clock> Replica<C> {
     /// The first copy, which has no edit behind it and may make every mark.
     pub fn first() -> Replica<C>
-        ensures { Whole meaning result.pen result.clock }
+        ensures { Whole C.Clock.meaning result.pen result.clock }
     {
         Replica {
             pen: C::seed(),
@@ -25,8 +25,8 @@ impl<C: Clock> Replica<C> {
 
     /// This copy and a second one, each with half of the pen.
     pub fn fork(&self) -> Result<(Replica<C>, Replica<C>), Fault>
-        requires { Whole meaning self.now.pen self.now.clock }
-        ensures { IfOk result (λ x. Whole meaning x.0.pen x.0.clock × Whole meaning x.1.pen x.1.clock) }
+        requires { Whole C.Clock.meaning self.now.pen self.now.clock }
+        ensures { IfOk result (λ x. Whole C.Clock.meaning x.0.pen x.0.clock × Whole C.Clock.meaning x.1.pen x.1.clock) }
     {
         let (mine, theirs) = C::fork(&self.pen)?;
         let clock = self.clock;
@@ -35,8 +35,8 @@ impl<C: Clock> Replica<C> {
 
     /// This copy after an edit.
     pub fn edit(&self) -> Result<Replica<C>, Fault>
-        requires { Whole meaning self.now.pen self.now.clock }
-        ensures { IfOk result (λ x. Whole meaning x.pen x.clock) }
+        requires { Whole C.Clock.meaning self.now.pen self.now.clock }
+        ensures { IfOk result (λ x. Whole C.Clock.meaning x.pen x.clock) }
     {
         let clock = self.clock.event(&self.pen)?;
         Ok(Replica {
@@ -47,8 +47,8 @@ impl<C: Clock> Replica<C> {
 
     /// This copy after an edit that has seen the other copy too.
     pub fn settle(&self, other: &Replica<C>) -> Result<Replica<C>, Fault>
-        requires { (Whole meaning self.now.pen self.now.clock) × (Whole meaning other.now.pen other.now.clock) }
-        ensures { IfOk result (λ x. Whole meaning x.pen x.clock) }
+        requires { (Whole C.Clock.meaning self.now.pen self.now.clock) × (Whole C.Clock.meaning other.now.pen other.now.clock) }
+        ensures { IfOk result (λ x. Whole C.Clock.meaning x.pen x.clock) }
     {
         let both = self.clock.join(&other.clock)?;
         let clock = both.event(&self.pen)?;
@@ -60,8 +60,8 @@ impl<C: Clock> Replica<C> {
 
     /// The other copy's edits, under this pen.
     pub fn take(&self, other: &Replica<C>) -> Replica<C>
-        requires { (Whole meaning self.now.pen self.now.clock) × (Whole meaning other.now.pen other.now.clock) }
-        ensures { Whole meaning result.pen result.clock }
+        requires { (Whole C.Clock.meaning self.now.pen self.now.clock) × (Whole C.Clock.meaning other.now.pen other.now.clock) }
+        ensures { Whole C.Clock.meaning result.pen result.clock }
     {
         Replica {
             pen: self.pen,
@@ -71,8 +71,8 @@ impl<C: Clock> Replica<C> {
 
     /// This copy with the other's pen as well, which comes back.
     pub fn unite(&self, other: &Replica<C>) -> Result<Replica<C>, Fault>
-        requires { (Whole meaning self.now.pen self.now.clock) × (Whole meaning other.now.pen other.now.clock) }
-        ensures { IfOk result (λ x. Whole meaning x.pen x.clock) }
+        requires { (Whole C.Clock.meaning self.now.pen self.now.clock) × (Whole C.Clock.meaning other.now.pen other.now.clock) }
+        ensures { IfOk result (λ x. Whole C.Clock.meaning x.pen x.clock) }
     {
         let pen = C::unite(&self.pen, &other.pen)?;
         Ok(Replica {
@@ -83,7 +83,7 @@ impl<C: Clock> Replica<C> {
 
     /// The verdict on this copy against the other.
     pub fn judge(&self, other: &Replica<C>) -> Verdict
-        requires { (Whole meaning self.now.pen self.now.clock) × (Whole meaning other.now.pen other.now.clock) }
+        requires { (Whole C.Clock.meaning self.now.pen self.now.clock) × (Whole C.Clock.meaning other.now.pen other.now.clock) }
     {
         self.clock.compare(&other.clock)
     }

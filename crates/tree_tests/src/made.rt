@@ -63,8 +63,7 @@ impl MadePen {
 
     pub fn shows(&self, heap: Global, text: &str) -> Result<(), Fail> {
         let pen = self.pen;
-        assert_eq!(format!(in heap; "{pen}")?.as_str(), text);
-        Ok(())
+        prints(format!(in heap; "{pen}")?, text)
     }
 }
 
@@ -109,15 +108,21 @@ impl MadeClock {
 
     pub fn judges(&self, heap: Global, other: &MadeClock, verdict: &str) -> Result<(), Fail> {
         let found = self.clock.compare(&other.clock);
-        assert_eq!(format!(in heap; "{found}")?.as_str(), verdict);
-        Ok(())
+        prints(format!(in heap; "{found}")?, verdict)
     }
 
     pub fn shows(&self, heap: Global, text: &str) -> Result<(), Fail> {
         let clock = self.clock;
-        assert_eq!(format!(in heap; "{clock}")?.as_str(), text);
-        Ok(())
+        prints(format!(in heap; "{clock}")?, text)
     }
+}
+
+// Fails with what was printed, where that is not the text that was wanted.
+fn prints(printed: String, wanted: &str) -> Result<(), Fail> {
+    if printed.as_str() != wanted {
+        Err(printed)?;
+    }
+    Ok(())
 }
 
 // The 16 first halves at depth 5: a pen or a clock with these alone has 63 nodes.
