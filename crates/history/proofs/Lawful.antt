@@ -1,5 +1,5 @@
 -- Every call of a good yard is lawful.
-use Rattle.std.proofs.Common.{◌≡◌, ℕ, ◌<◌, Bool, true, false, not, ◌⊎◌, List, ◌++◌, length, Some, None, Ok, Err, Option, Result, refl, ap, ◌∙◌, subst, ⊎_elim, arith}
+use Rattle.std.proofs.Common.{◌≡◌, ℕ, ◌<◌, Bool, true, false, not, List, ◌++◌, length, Some, None, Ok, Err, Option, Result, refl, ap, ◌∙◌, subst, ⊎_elim, arith}
 use Rattle.std.proofs.lemmas.Bool.{both_ways, not-false, cond-false}
 use Rattle.clock.specs.declared.causes.Cause.TheVariants.{NoConflict, InConflict, PensOverlap}
 use Rattle.clock.specs.declared.faults.Fault.{Fault}

@@ -7,7 +7,7 @@
 -- tree_row_holds    whether the rules give the answer of a row
 -- deep n i          the id (..((i,0),0)..,0), in which i stands n levels down
 -- tree_rows         the examples
-use Rattle.std.specs.Prelude.{ℕ, zero, suc, Bool, true, false, ◌&&◌, List, [], ◌∷◌, Some, None, Ok, Err, Option, Result, ◌==◌}
+use Rattle.std.specs.Prelude.{ℕ, zero, suc, Bool, false, ◌&&◌, List, [], ◌∷◌, Some, None, Ok, Err, Option, Result, ◌==◌}
 use Rattle.clock.specs.declared.causes.Cause.{Cause}
 use Rattle.clock.specs.declared.causes.Cause.TheVariants.{CannotSplit, PensOverlap, AtLimit}
 use Rattle.clock.specs.declared.verdicts.Verdict.{Verdict}

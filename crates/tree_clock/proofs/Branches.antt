@@ -1,10 +1,10 @@
 -- The branches of a flat tree, and of an id that lies flat.
-use Rattle.std.proofs.Common.{◌≡◌, ℕ, ◌+◌, ◌-◌, ◌<◌, ◌≤◌, max, Bool, true, false, List, length, sym, refl, ap, ◌∙◌, arith}
-use Rattle.tree_rules.specs.Ids.{Id, off, on, pair, id_size, id_depth, NormalId, is_off}
-use Rattle.tree_rules.specs.Events.{Event, leaf, node, size, base, top, lo, hi}
+use Rattle.std.proofs.Common.{◌≡◌, ℕ, ◌+◌, ◌<◌, ◌≤◌, List, length, refl, ap, ◌∙◌, arith}
+use Rattle.tree_rules.specs.Ids.{Id, off, on, pair, id_size, NormalId}
+use Rattle.tree_rules.specs.Events.{Event, leaf, node, lo, hi}
 use Rattle.tree_rules.specs.Shape.{shape}
 use Rattle.tree_rules.proofs.Shapes.{size-shape}
-use Rattle.tree_rules.proofs.Norms.{size_pos, top-lo, top-hi, base-top}
+use Rattle.tree_rules.proofs.Norms.{top-lo, top-hi, base-top}
 use Rattle.tree_clock.specs.declared.nodes.Node.{Node}
 use Rattle.tree_clock.specs.Flat.{flat, Flat, FlatId, Under}
 use Rattle.tree_clock.specs.FlatForm.{first, first-base, long}

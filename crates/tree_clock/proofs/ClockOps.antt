@@ -1,17 +1,15 @@
 -- The operations on clocks, from what is shown of their parts.
-use Rattle.std.proofs.Common.{◌≡◌, ℕ, ◌+◌, ◌-◌, ◌<◌, ◌≤◌, Bool, true, false, ltb, ◌↔◌, List, length, take, Ok, Err, Decides, Result, sym, refl, ap, ◌∙◌, subst, ap₂, arith, le-ltb, lt-ltb}
+use Rattle.std.proofs.Common.{◌≡◌, ℕ, ◌-◌, ◌<◌, ◌≤◌, Bool, true, ◌↔◌, List, length, take, Ok, Err, Decides, Result, sym, ap, ◌∙◌, arith, le-ltb, lt-ltb}
 use Rattle.clock.specs.declared.causes.Cause.TheVariants.{ClockTooLarge}
 use Rattle.clock.specs.declared.faults.Fault.{Fault}
-use Rattle.clock.specs.declared.verdicts.Verdict.{Verdict}
 use Rattle.clock.specs.declared.verdicts.Verdict.TheVariants.{Equal}
 use Rattle.clock.specs.Answers.{answered, fault_of}
 use Rattle.clock.specs.Meaning.{Yes}
 use Rattle.clock.specs.Sound.{Within}
 use Rattle.clock.specs.Verdicts.{verdict_of}
-use Rattle.tree_rules.specs.Events.{Event, size, top, Normal}
-use Rattle.tree_rules.specs.Join.{join, join_up, covers_up}
+use Rattle.tree_rules.specs.Events.{Event, size}
+use Rattle.tree_rules.specs.Join.{join, covers_up}
 use Rattle.tree_rules.specs.Kind.{joined_due}
-use Rattle.tree_rules.specs.Walk.{fits_up}
 use Rattle.tree_rules.proofs.Covering.{fits_covers}
 use Rattle.tree_clock.specs.declared.nodes.Node.{Node}
 use Rattle.tree_clock.specs.declared.clocks.TreeClock.{TreeClock}

@@ -1,9 +1,9 @@
 -- Norm in place: what `close` reads and writes.
-use Rattle.std.proofs.Common.{◌≡◌, ℕ, zero, suc, ◌+◌, ◌-◌, ◌<◌, ◌≤◌, min, max, true, false, List, [], ◌∷◌, ◌++◌, length, get_or, take, drop, set, sym, refl, ap, ◌∙◌, subst, ap₂, append_assoc, arith, length-append, length-set, take_at, eq-eqb, ne_eqb}
+use Rattle.std.proofs.Common.{◌≡◌, ℕ, ◌+◌, ◌-◌, ◌<◌, ◌≤◌, min, false, List, [], ◌∷◌, ◌++◌, length, get_or, take, set, sym, refl, ap, ◌∙◌, append_assoc, arith, length-append, length-set, take_at, eq-eqb, ne_eqb}
 use Rattle.std.proofs.lemmas.List.{get_or_at, set_at}
 use Rattle.tree_clock.specs.declared.nodes.Node.{Node}
-use Rattle.tree_rules.specs.Events.{Event, leaf, node, size, base, low, top, less, twins, lifted, norm, Normal}
-use Rattle.tree_rules.proofs.Norms.{size_pos, size_less, size-lifted, base-top, normal-low}
+use Rattle.tree_rules.specs.Events.{Event, leaf, node, size, base, less, twins, lifted, norm, Normal}
+use Rattle.tree_rules.proofs.Norms.{size_pos, size_less, size-lifted, normal-low}
 use Rattle.tree_clock.specs.Flat.{flat, filler, Laid, Stands}
 use Rattle.tree_clock.specs.FlatForm.{first, flat_length, base-flat}
 

@@ -1,7 +1,7 @@
 -- The walk of `covers_from` over the nodes of the second tree.
-use Rattle.std.proofs.Common.{◌≡◌, ℕ, ◌+◌, ◌<◌, ◌≤◌, Bool, true, false, ◌&&◌, leb, List, sym, refl, ap, ◌∙◌, arith, le-leb}
+use Rattle.std.proofs.Common.{◌≡◌, ℕ, ◌+◌, ◌<◌, ◌≤◌, Bool, true, false, ◌&&◌, leb, List, sym, ◌∙◌, arith, le-leb}
 use borrow.Author.Tests.{lt-leb}
-use Rattle.tree_rules.specs.Events.{Event, leaf, node, size, base, lo, hi}
+use Rattle.tree_rules.specs.Events.{Event, leaf, node, base, lo, hi}
 use Rattle.tree_rules.specs.Walk.{fits_up}
 use Rattle.tree_rules.proofs.Norms.{size_pos}
 use Rattle.tree_clock.specs.declared.nodes.Node.{Node}

@@ -1,5 +1,5 @@
 -- Event, from what is shown of fill and grow.
-use Rattle.std.proofs.Common.{◌≡◌, ℕ, ◌+◌, ◌-◌, ◌*◌, ◌<◌, ◌≤◌, Bool, true, false, ltb, List, length, take, None, Ok, Err, Decides, Result, sym, refl, ap, ◌∙◌, subst, arith, le-ltb, lt-ltb}
+use Rattle.std.proofs.Common.{◌≡◌, ℕ, ◌-◌, ◌<◌, ◌≤◌, Bool, true, false, List, length, take, Ok, Err, Decides, Result, sym, ap, ◌∙◌, arith, le-ltb, lt-ltb}
 use borrow.Author.Tests.{both_ways}
 use Rattle.clock.specs.declared.causes.Cause.TheVariants.{PenSpent, ClockTooLarge, AtLimit}
 use Rattle.clock.specs.declared.faults.Fault.{Fault}

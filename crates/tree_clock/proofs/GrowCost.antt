@@ -1,7 +1,7 @@
 -- What growing costs, as `growth_cost` finds it.
 use Rattle.std.proofs.Common.{◌≡◌, ℕ, ◌+◌, ◌-◌, ◌*◌, ◌<◌, ◌≤◌, Bool, true, false, cond, List, refl, ◌∙◌, arith}
 use Rattle.tree_rules.specs.Ids.{Id, off, on, pair, is_off}
-use Rattle.tree_rules.specs.Events.{Event, leaf, node, size, lo, hi}
+use Rattle.tree_rules.specs.Events.{Event, leaf, node, lo, hi}
 use Rattle.tree_rules.specs.Shape.{shape}
 use Rattle.tree_rules.specs.Grow.{extra, lowers, cost}
 use Rattle.tree_rules.proofs.Norms.{size_pos}

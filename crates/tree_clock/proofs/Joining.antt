@@ -1,6 +1,6 @@
 -- How `join_into` lays out a join.
-use Rattle.std.proofs.Common.{◌≡◌, ℕ, zero, suc, ◌+◌, ◌-◌, ◌<◌, ◌≤◌, min, max, List, [], ◌∷◌, ◌++◌, length, set, sym, refl, ap, ◌∙◌, arith}
-use Rattle.tree_rules.specs.Events.{Event, leaf, node, size, base, top, lo, hi, norm, Normal}
+use Rattle.std.proofs.Common.{◌≡◌, ℕ, ◌+◌, ◌-◌, ◌<◌, ◌≤◌, min, max, List, [], ◌∷◌, length, set, sym, ◌∙◌, arith}
+use Rattle.tree_rules.specs.Events.{Event, leaf, node, size, top, lo, hi, norm, Normal}
 use Rattle.tree_rules.specs.Join.{join_up}
 use Rattle.tree_rules.proofs.Norms.{size_pos, base-top, top-lo, top-hi}
 use Rattle.tree_rules.proofs.Joins.{join-leaves, join_step, normal-join, size-join, top-join, sunk_le}

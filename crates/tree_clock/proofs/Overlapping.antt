@@ -1,8 +1,8 @@
 -- The test of `overlaps`, step by step.
-use Rattle.std.proofs.Common.{◌≡◌, ℕ, ◌+◌, ◌<◌, ◌≤◌, Bool, true, false, not, ◌||◌, List, sym, refl, ap, ◌∙◌, arith}
-use Rattle.tree_rules.specs.Ids.{Id, off, on, pair, is_off, is_on, NormalId}
+use Rattle.std.proofs.Common.{◌≡◌, Bool, true, false, ◌||◌, List, sym, refl, ◌∙◌, arith}
+use Rattle.tree_rules.specs.Ids.{Id, off, on, pair, is_off, NormalId}
 use Rattle.tree_rules.specs.Shape.{shape}
-use Rattle.tree_rules.specs.Sum.{overlap, some_place}
+use Rattle.tree_rules.specs.Sum.{overlap}
 use Rattle.tree_rules.proofs.Norms.{size_pos, clash, clash'}
 use Rattle.tree_rules.proofs.IdLaws.{normal_some}
 use Rattle.tree_clock.specs.declared.nodes.Node.{Node}

@@ -1,15 +1,13 @@
 -- The operations on pens, from what is shown of their parts.
-use Rattle.std.proofs.Common.{◌≡◌, ℕ, ◌+◌, ◌-◌, ◌<◌, ◌≤◌, Bool, true, false, ltb, ◌↔◌, List, [], ◌∷◌, length, take, Some, None, Ok, Err, Decides, Option, Result, sym, refl, ap, ◌∙◌, subst, ap₂, arith, length-take, le-ltb, lt-ltb}
-use Rattle.clock.specs.declared.causes.Cause.{Cause}
+use Rattle.std.proofs.Common.{◌≡◌, ℕ, ◌-◌, ◌<◌, ◌≤◌, Bool, true, false, ◌↔◌, List, length, take, None, Ok, Err, Decides, Result, sym, ap, ◌∙◌, subst, arith, le-ltb, lt-ltb}
 use Rattle.clock.specs.declared.causes.Cause.TheVariants.{CannotSplit, PensOverlap, PenTooLarge}
 use Rattle.clock.specs.declared.faults.Fault.{Fault}
-use Rattle.clock.specs.Answers.{answered, due, first, fault_of}
+use Rattle.clock.specs.Answers.{answered, fault_of}
 use Rattle.clock.specs.Meaning.{Yes}
 use Rattle.tree_rules.specs.Ids.{Id, id_size, id_depth, NormalId}
-use Rattle.tree_rules.specs.Events.{Event, size, top}
+use Rattle.tree_rules.specs.Events.{Event, size}
 use Rattle.tree_rules.specs.Kind.{split_due, sum_due}
 use Rattle.tree_rules.specs.Shape.{shape}
-use Rattle.tree_rules.specs.Join.{join_up}
 use Rattle.tree_rules.specs.Split.{half, unsplittable}
 use Rattle.tree_rules.specs.Sum.{sum, overlap}
 use Rattle.tree_rules.proofs.Made.{made_id}

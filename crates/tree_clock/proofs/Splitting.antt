@@ -1,5 +1,5 @@
 -- When `cannot_split` says yes, and how `half_into` lays a half out.
-use Rattle.std.proofs.Common.{◌≡◌, ℕ, zero, suc, ◌+◌, ◌-◌, ◌<◌, ◌≤◌, max, Bool, true, false, cond, not, ◌&&◌, ◌||◌, eqb, ltb, List, length, sym, refl, ap, ◌∙◌, subst, arith, le-ltb, lt-ltb, ne_eqb}
+use Rattle.std.proofs.Common.{◌≡◌, ℕ, zero, suc, ◌+◌, ◌-◌, ◌<◌, ◌≤◌, max, Bool, true, false, not, ◌&&◌, ◌||◌, eqb, ltb, List, length, sym, refl, ap, ◌∙◌, subst, arith, le-ltb, lt-ltb, ne_eqb}
 use native.Mathlib.Decide.{dec_lt}
 use Rattle.tree_rules.specs.Ids.{Id, off, on, pair, is_off, id_size, id_depth, NormalId}
 use Rattle.tree_rules.specs.Shape.{shape}
@@ -7,11 +7,11 @@ use Rattle.tree_rules.specs.Split.{half, half_pair, unsplittable}
 use Rattle.tree_rules.proofs.Norms.{size_pos, clash, clash'}
 use Rattle.tree_clock.specs.declared.nodes.Node.{Node}
 use Rattle.tree_clock.specs.Flat.{flat, Laid, Stands}
-use Rattle.tree_rules.specs.Events.{Event, leaf, node}
+use Rattle.tree_rules.specs.Events.{Event, node}
 use Rattle.tree_clock.proofs.Writing.{both, laid}
 use Rattle.tree_clock.specs.FlatForm.{first, first-size, first-base}
 use Rattle.tree_rules.proofs.Shapes.{size-shape}
-use Rattle.tree_clock.proofs.Branches.{Lower, Upper, id_lo, id_hi, lower_id, upper_id, normal_id-lo, normal_id-hi, id_long}
+use Rattle.tree_clock.proofs.Branches.{Lower, Upper, id_lo, id_hi, lower_id, upper_id, id_long}
 
 -- two tests that say yes together are one
 same_ltb : (a b c d : ℕ) → (a < b → c < d) → (c < d → a < b) → ltb a b ≡ ltb c d

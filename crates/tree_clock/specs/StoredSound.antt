@@ -1,5 +1,5 @@
 -- Stored trees are a sound clock kind, and well-made values with the same marks are one.
-use Rattle.std.specs.Prelude.{◌≡◌, ℕ, ◌^◌, ◌<◌, ◌≤◌, Bool, true, false, ◌&&◌, nat_lt, refl}
+use Rattle.std.specs.Prelude.{◌≡◌, ℕ, ◌^◌, ◌<◌, Bool, ◌&&◌, nat_lt}
 use Rattle.std.proofs.Common.{sym, ap, ◌∙◌, arith, lt-ltb, le-ltb, ltb-false}
 use Rattle.clock.specs.Meaning.{Yes}
 use Rattle.clock.specs.Sound.{Sound}

@@ -1,5 +1,5 @@
 -- The values of an event tree at the places of its two halves, and that norm keeps them.
-use Rattle.std.proofs.Common.{◌≡◌, ℕ, zero, suc, ◌+◌, ◌-◌, ◌^◌, ◌<◌, ◌≤◌, min, max, Bool, true, false, cond, eqb, ltb, sym, refl, ap, ◌∙◌, subst, pow-suc, arith, le-ltb, lt-ltb, eqb-true}
+use Rattle.std.proofs.Common.{◌≡◌, ℕ, zero, suc, ◌+◌, ◌-◌, ◌^◌, ◌<◌, ◌≤◌, min, max, Bool, true, false, cond, ltb, sym, refl, ◌∙◌, subst, pow-suc, arith, le-ltb, lt-ltb, eqb-true}
 use native.Mathlib.Decide.{dec_lt}
 use Rattle.tree_rules.specs.Events.{Event, leaf, node, depth, base, lo, hi, value, low, top, less, twins, lifted, norm, Normal}
 use Rattle.tree_rules.proofs.Norms.{normal-low, clash}

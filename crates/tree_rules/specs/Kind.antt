@@ -3,7 +3,7 @@
 -- A pen may make the marks (x,k), for every k, at each place x where it is 1.
 -- A clock knows (x,k) for each k below its value at x.
 -- Limits: 4,096 places, depth 12, 63 nodes, values up to 65,535.
-use Rattle.std.specs.Prelude.{ℕ, Bool, ◌&&◌, List, [], ◌∷◌, Option, nat_le, nat_lt}
+use Rattle.std.specs.Prelude.{Bool, ◌&&◌, [], ◌∷◌, Option, nat_le, nat_lt}
 use Rattle.clock.specs.declared.causes.Cause.{Cause}
 use Rattle.clock.specs.declared.causes.Cause.TheVariants.{CannotSplit, PensOverlap, PenTooLarge, PenSpent, ClockTooLarge, AtLimit}
 use Rattle.clock.specs.Answers.{due, first}

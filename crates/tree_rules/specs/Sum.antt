@@ -2,7 +2,7 @@
 --
 -- sum i j        for ids with no place in common
 -- overlap i j    whether some place is 1 in both
-use Rattle.std.specs.Prelude.{Bool, true, false, cond, ◌||◌}
+use Rattle.std.specs.Prelude.{Bool, true, false, ◌||◌}
 use Rattle.tree_rules.specs.Ids.{Id, off, on, pair, norm_id}
 
 -- where both are 1 there is no rule, since unite is refused there

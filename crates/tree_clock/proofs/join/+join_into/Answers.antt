@@ -1,4 +1,4 @@
-use Rattle.std.proofs.Common.{◌≡◌, ◌+◌, ◌<◌, ◌≤◌, length, ◌∙◌, arith, length-set}
+use Rattle.std.proofs.Common.{◌≡◌, ◌+◌, ◌∙◌, arith, length-set}
 use Rattle.tree_clock.specs.FlatForm.{some, first}
 use Rattle.tree_clock.proofs.Writing.{from_long, written_long, written}
 use Rattle.tree_clock.proofs.Joining.{room_under, joins_leaves, under_lo, under_hi, falls_lo, falls_hi, size-lo, size-hi, closes, joined}

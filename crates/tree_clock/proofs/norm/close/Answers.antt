@@ -1,4 +1,4 @@
-use Rattle.std.proofs.Common.{get_or, refl, arith, length-set, rules}
+use Rattle.std.proofs.Common.{get_or, refl, arith, length-set}
 use Rattle.tree_clock.specs.Flat.{filler}
 use Rattle.tree_rules.proofs.Norms.{base-top}
 use Rattle.tree_clock.proofs.Closing.{laid_long, laid_mid, roots, close_same, close_other, Apart, length_writes}

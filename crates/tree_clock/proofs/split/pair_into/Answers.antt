@@ -1,6 +1,6 @@
 use Rattle.std.proofs.Common.{◌+◌, ◌∙◌, arith}
 use Rattle.tree_rules.specs.Shape.{shape}
-use Rattle.tree_clock.proofs.Writing.{from_long, written_long, written, laid}
+use Rattle.tree_clock.proofs.Writing.{written_long, written, laid}
 use Rattle.tree_clock.proofs.split.pair_into.Goals as goal
 
 pub returns : goal.returns

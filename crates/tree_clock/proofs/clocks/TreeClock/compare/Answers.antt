@@ -1,4 +1,4 @@
-use Rattle.std.proofs.Common.{◌≡◌, sym, ◌∙◌, subst, ap₂}
+use Rattle.std.proofs.Common.{sym, ◌∙◌, subst, ap₂}
 use Rattle.clock.specs.Compare.{ComparesMarks}
 use Rattle.clock.specs.Verdicts.{verdict_of}
 use Rattle.clock.proofs.Comparing.{compares_marks}

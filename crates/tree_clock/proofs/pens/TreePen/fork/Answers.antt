@@ -1,7 +1,7 @@
 use Rattle.std.proofs.Common.{true, false}
 use Rattle.clock.proofs.Answering.{fork_has}
 use Rattle.tree_clock.specs.Reading.{pen_facts}
-use Rattle.tree_clock.specs.Stored.{id_of, tree_kind}
+use Rattle.tree_clock.specs.Stored.{tree_kind}
 use Rattle.tree_clock.specs.StoredSound.{tree_kind_sound}
 use Rattle.tree_clock.proofs.PenOps.{pen_parts, pen_flat, fork_refused, half_fits, fork_done}
 use Rattle.tree_clock.proofs.pens.TreePen.fork.Goals as goal
