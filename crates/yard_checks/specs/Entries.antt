@@ -8,8 +8,9 @@ use Rattle.clock.specs.Meaning.{Meaning, Yes}
 use Rattle.history.specs.declared.tables.Berth.{Berth}
 use Rattle.history.specs.declared.tables.Record.{Record}
 
-abbrev pub Clocks : {Pen C P : Type 0} → Meaning Pen C → List (Record C P) → Type 0
-Clocks {C = C} {P = P} m cs = (i : ℕ) (r : Record C P) → slice_get cs i ≡ Some r → Yes (m.clock_made r.clock)
+module _ {Pen C P : Type 0} (m : Meaning Pen C) (cs : List (Record C P)) where
+  abbrev pub Clocks : Type 0
+  Clocks = (i : ℕ) (r : Record C P) → slice_get cs i ≡ Some r → Yes (m.clock_made r.clock)
 
 abbrev pub Pens : {Pen C : Type 0} → Meaning Pen C → List (Berth Pen) → Type 0
 Pens {Pen} m bs = (a : ℕ) (x : Berth Pen) → slice_get bs a ≡ Some x → Yes (m.pen_made x.pen)
