@@ -1,5 +1,5 @@
 ghost use Rattle.std.specs.Prelude.{◌≡◌, ◌+◌, ◌≤◌, length};
-ghost use Rattle.tree_rules.specs.Events.{Event, top, norm as normOf, Normal};
+ghost use Rattle.tree_rules.specs.Events.{Event, top, norm as norm_of, Normal};
 ghost use Rattle.tree_clock.specs.Flat.{Laid, Stands};
 
 use crate::nodes::Node;
@@ -8,7 +8,7 @@ use crate::nodes::Node;
 // `mid` and the upper up to `end`, into normal form, in place, and answers its size.
 pub(crate) fn close(out: &mut [Node], base: u16, mid: usize, end: usize) -> usize
     requires { (l r : Event) × Laid out.old mid end l r × Normal l × Normal r × (base + top l ≤ 65535) × (end ≤ 65535) }
-    ensures stands { (l r : Event) → Laid out.old mid end l r → Normal l → Normal r → Stands out.new result (normOf base l r) }
+    ensures stands { (l r : Event) → Laid out.old mid end l r → Normal l → Normal r → Stands out.new result (norm_of base l r) }
     ensures long { length out.new ≡ length out.old }
 {
     let (l, u) = (out[1], out[mid]);

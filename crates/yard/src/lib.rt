@@ -11,7 +11,7 @@
 //! edit::<K, P>(&card, &berths, &mut copies, 0, 0, payload)?;
 //! let (taken, conflicts) = pull::<K, P>(&card, &berths, &mut copies, &mut bytes, 0, 1)?;
 //! let card = seal(card);
-//! let verdict = judge::<SealedCardCard, K, P>(&card, &berths, &copies, 0, 1, 0)?;
+//! let verdict = judge::<SealedCard, K, P>(&card, &berths, &copies, 0, 1, 0)?;
 //! ```
 //!
 //! Each contract has the same clauses: `made`, the pens and clocks of the tables
