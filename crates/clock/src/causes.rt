@@ -34,11 +34,11 @@ pub enum Cause {
     AtLimit = 16,
 }
 
-impl Cause {
-    /// The number of the cause, as it is printed.
-    pub fn number(self) -> u8
-        ensures { result ≡ number_of self }
-    {
-        self as u8
+/// The number of the cause, as it is printed.
+impl From<Cause> for u8 {
+    ghost from_gives = { λ cause number. number ≡ number_of cause };
+
+    fn from(cause: Cause) -> u8 {
+        cause as u8
     }
 }

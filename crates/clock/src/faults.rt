@@ -1,4 +1,4 @@
-ghost use Rattle.std.specs.Prelude.{◌≡◌};
+ghost use Rattle.std.specs.Prelude.{◌≡◌, Some};
 ghost use Rattle.clock.specs.Answers.{fault_of};
 
 use crate::causes::Cause;
@@ -15,11 +15,11 @@ pub struct Fault {
     pub file: Option<usize>,
 }
 
-impl Fault {
-    /// A refusal with no place yet.
-    pub fn of(cause: Cause) -> Fault
-        ensures { result ≡ fault_of cause }
-    {
+/// A refusal with no place yet.
+impl From<Cause> for Fault {
+    ghost from_gives = { λ cause fault. fault ≡ fault_of cause };
+
+    fn from(cause: Cause) -> Fault {
         Fault {
             cause,
             berth: None,
@@ -28,10 +28,32 @@ impl Fault {
     }
 }
 
+impl Fault {
+    /// The same refusal, about this berth.
+    pub fn at_berth(self, berth: usize) -> Fault
+        ensures { result ≡ record { cause = self.cause; berth = Some berth; file = self.file } }
+    {
+        Fault {
+            berth: Some(berth),
+            ..self
+        }
+    }
+
+    /// The same refusal, about this file.
+    pub fn at_file(self, file: usize) -> Fault
+        ensures { result ≡ record { cause = self.cause; berth = self.berth; file = Some file } }
+    {
+        Fault {
+            file: Some(file),
+            ..self
+        }
+    }
+}
+
 /// The refusal as a log prints it, as `refused 7 berth 1 file 0`.
 impl fmt::Display for Fault {
     fn fmt<W: fmt::Write>(&self, f: &mut fmt::Formatter<W>) -> fmt::Result {
-        let number = self.cause.number();
+        let number = u8::from(self.cause);
         write!(f, "refused {number}")?;
         if let Some(berth) = self.berth {
             write!(f, " berth {berth}")?;

@@ -29,12 +29,14 @@ impl Verdict {
             (false, false) => Verdict::Conflict,
         }
     }
+}
 
-    /// The number of the verdict, as a report writes it.
-    pub fn byte(self) -> u8
-        ensures { result ≡ byte_of self }
-    {
-        self as u8
+/// The number of the verdict, as a report writes it.
+impl From<Verdict> for u8 {
+    ghost from_gives = { λ verdict byte. byte ≡ byte_of verdict };
+
+    fn from(verdict: Verdict) -> u8 {
+        verdict as u8
     }
 }
 
