@@ -16,4 +16,4 @@ mod histories;
 mod tables;
 
 pub use histories::history_law;
-pub use tables::{Berth, Record, State};
+pub use tables::{Berth, Record, Sizes, State};

@@ -23,3 +23,10 @@ pub struct Record<C, P> {
     pub clock: C,
     pub payload: P,
 }
+
+/// How many berths and files a yard has: what a card stands for.
+#[derive(Clone, Copy, PartialEq, Eq, Debug)]
+pub struct Sizes {
+    pub berths: usize,
+    pub files: usize,
+}
