@@ -1,141 +1,91 @@
-ghost use Rattle.std.specs.Prelude.{◌≡◌, ℕ, ◌+◌, ◌*◌, ◌<◌, ◌≤◌};
-ghost use Rattle.history.specs.Tables.{sizes, working};
+ghost use Rattle.std.specs.Prelude.{◌≡◌, ◌+◌, ◌*◌, ◌<◌, ◌≤◌};
+ghost use Rattle.clock.specs.Answers.{due};
+ghost use Rattle.history.specs.Tables.{working};
 ghost use Rattle.history.specs.Checks.{wrong_sizes, no_berth, no_file, same_berth, not_working, not_empty, short_buffer};
 ghost use Rattle.yard_checks.specs.Passing.{passing};
 
 use clock::{Cause, Fault};
-use history::{Berth, State};
+use history::{Berth, Sizes, State};
+
+// Refuses where the refusal is due.
+fn refuse_if(is_due: bool, fault: Fault) -> Result<(), Fault>
+    ensures { result ≡ passing (due is_due fault) }
+{
+    if is_due { Err(fault) } else { Ok(()) }
+}
 
 /// 1: the tables are of the card's sizes, which are within the limits.
-pub fn check_sizes<X, Y>(many: usize, files: usize, berths: &[X], copies: &[Y]) -> Result<(), Fault>
-    ensures { result ≡ passing (wrong_sizes (sizes many files) berths.now copies.now) }
+pub fn check_sizes<X, Y>(sizes: Sizes, berths: &[X], copies: &[Y]) -> Result<(), Fault>
+    ensures { result ≡ passing (wrong_sizes sizes berths.now copies.now) }
 {
-    if 1 <= many
-        && many <= 16
-        && 1 <= files
-        && files <= 32
-        && berths.len() == many
-        && copies.len() == many * files
-    {
-        Ok(())
-    } else {
-        Err(Fault {
-            cause: Cause::Sizes,
-            berth: None,
-            file: None,
-        })
-    }
+    let fit = 1 <= sizes.berths
+        && sizes.berths <= 16
+        && 1 <= sizes.files
+        && sizes.files <= 32
+        && berths.len() == sizes.berths
+        && copies.len() == sizes.berths * sizes.files;
+    refuse_if(!fit, Cause::Sizes.into())
 }
 
 /// 2: there is such a berth.
-pub fn check_berth(many: usize, files: usize, a: usize) -> Result<(), Fault>
-    ensures { result ≡ passing (no_berth (sizes many files) a) }
+pub fn check_berth(sizes: Sizes, a: usize) -> Result<(), Fault>
+    ensures { result ≡ passing (no_berth sizes a) }
 {
-    if many <= a {
-        Err(Fault {
-            cause: Cause::NoBerth,
-            berth: Some(a),
-            file: None,
-        })
-    } else {
-        Ok(())
-    }
+    refuse_if(sizes.berths <= a, Fault::from(Cause::NoBerth).at_berth(a))
 }
 
 /// 3: there is such a file.
-pub fn check_file(many: usize, files: usize, f: usize) -> Result<(), Fault>
-    ensures { result ≡ passing (no_file (sizes many files) f) }
+pub fn check_file(sizes: Sizes, f: usize) -> Result<(), Fault>
+    ensures { result ≡ passing (no_file sizes f) }
 {
-    if files <= f {
-        Err(Fault {
-            cause: Cause::NoFile,
-            berth: None,
-            file: Some(f),
-        })
-    } else {
-        Ok(())
-    }
+    refuse_if(sizes.files <= f, Fault::from(Cause::NoFile).at_file(f))
 }
 
 /// 4: two berths, not the same twice.
 pub fn check_two(a: usize, b: usize) -> Result<(), Fault>
     ensures { result ≡ passing (same_berth a b) }
 {
-    if a == b {
-        Err(Fault {
-            cause: Cause::SameBerth,
-            berth: Some(a),
-            file: None,
-        })
-    } else {
-        Ok(())
-    }
+    refuse_if(a == b, Fault::from(Cause::SameBerth).at_berth(a))
 }
 
 // Whether there is such a berth and it is in use.
 fn works<Q>(berths: &[Berth<Q>], a: usize) -> bool
     ensures { result ≡ working berths.now a }
 {
-    if a >= berths.len() {
-        return false;
-    }
-    let berth = &berths[a];
-    match berth.state {
-        State::Working => true,
-        State::Empty => false,
-    }
+    berths
+        .get(a)
+        .is_some_and(|berth| berth.state == State::Working)
 }
 
 /// 5: the berth is in use.
 pub fn check_working<Q>(berths: &[Berth<Q>], a: usize) -> Result<(), Fault>
     ensures { result ≡ passing (not_working berths.now a) }
 {
-    if works(berths, a) {
-        Ok(())
-    } else {
-        Err(Fault {
-            cause: Cause::WrongState,
-            berth: Some(a),
-            file: None,
-        })
-    }
+    refuse_if(
+        !works(berths, a),
+        Fault::from(Cause::WrongState).at_berth(a),
+    )
 }
 
 /// 5: the berth is empty.
 pub fn check_empty<Q>(berths: &[Berth<Q>], b: usize) -> Result<(), Fault>
     ensures { result ≡ passing (not_empty berths.now b) }
 {
-    if works(berths, b) {
-        Err(Fault {
-            cause: Cause::WrongState,
-            berth: Some(b),
-            file: None,
-        })
-    } else {
-        Ok(())
-    }
+    refuse_if(works(berths, b), Fault::from(Cause::WrongState).at_berth(b))
 }
 
 /// 6: the buffer has a byte for each file.
-pub fn check_buffer(many: usize, files: usize, bytes: &[u8]) -> Result<(), Fault>
-    ensures { result ≡ passing (short_buffer (sizes many files) bytes.now) }
+pub fn check_buffer(sizes: Sizes, bytes: &[u8]) -> Result<(), Fault>
+    ensures { result ≡ passing (short_buffer sizes bytes.now) }
 {
-    if bytes.len() < files {
-        Err(Fault {
-            cause: Cause::ShortBuffer,
-            berth: None,
-            file: None,
-        })
-    } else {
-        Ok(())
-    }
+    refuse_if(bytes.len() < sizes.files, Cause::ShortBuffer.into())
 }
 
 /// The record of berth a and file f.
-pub fn place(many: usize, files: usize, a: usize, f: usize) -> usize
-    requires { (a < many) × ((many ≤ 16) × ((f < files) × (files ≤ 32))) }
-    ensures is { result ≡ a * files + f }
-    ensures within { result < many * files }
+pub fn place(sizes: Sizes, a: usize, f: usize) -> usize
+    requires { (a < sizes.berths) × ((sizes.berths ≤ 16) × ((f < sizes.files) × (sizes.files ≤ 32))) }
+    ensures is { result ≡ a * sizes.files + f }
+    ensures within { result < sizes.berths * sizes.files }
 {
-    a * files + f
+    a * sizes.files + f
 }

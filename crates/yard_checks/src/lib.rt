@@ -3,9 +3,9 @@
 //! clock kind's refusal on its way up.
 //!
 //! ```text
-//! check_sizes(many, files, berths, copies)?;          // 1
-//! check_berth(many, files, a)?;                       // 2
-//! let i = place(many, files, a, f);
+//! check_sizes(sizes, berths, copies)?;          // 1
+//! check_berth(sizes, a)?;                       // 2
+//! let i = place(sizes, a, f);
 //! let clock = copies[i].clock.event(&berths[a].pen).at(a, f)?;
 //! ```
 

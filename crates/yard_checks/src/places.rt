@@ -14,26 +14,12 @@ impl<T> Place for Result<T, Fault> {
     fn at(self, berth: usize, file: usize) -> Result<T, Fault>
         ensures { result ≡ at_place (Some berth) (Some file) self }
     {
-        match self {
-            Ok(value) => Ok(value),
-            Err(fault) => Err(Fault {
-                cause: fault.cause,
-                berth: Some(berth),
-                file: Some(file),
-            }),
-        }
+        self.map_err(|fault| Fault::from(fault.cause).at_berth(berth).at_file(file))
     }
 
     fn at_berth(self, berth: usize) -> Result<T, Fault>
         ensures { result ≡ at_place (Some berth) None self }
     {
-        match self {
-            Ok(value) => Ok(value),
-            Err(fault) => Err(Fault {
-                cause: fault.cause,
-                berth: Some(berth),
-                file: None,
-            }),
-        }
+        self.map_err(|fault| Fault::from(fault.cause).at_berth(berth))
     }
 }

@@ -4,5 +4,5 @@ use Rattle.yard_checks.proofs.checks.place.Goals as goal
 
 pub returns : goal.returns
 returns c =
-    let l = mul-add-lt c.args.a c.args.files c.args.f c.args.many (omega arith) (omega arith) in
+    let l = mul-add-lt c.args.a c.args.sizes.files c.args.f c.args.sizes.berths (omega arith) (omega arith) in
     record { is = refl; within = omega arith }
