@@ -1,5 +1,7 @@
 ghost use Rattle.std.specs.Prelude.{◌≡◌};
-ghost use Rattle.history.specs.Tables.{Card as Sizes};
+ghost use Rattle.history.specs.declared.tables.Sizes.{Sizes};
+
+use history::Sizes;
 
 /// What only this crate's cards have, so that no other crate makes a card.
 pub trait Own {}
@@ -8,11 +10,21 @@ pub trait Own {}
 pub trait Card: Own {
     ghost sizes: { Self → Sizes };
 
+    /// How many berths and files the yard has.
+    fn sizes(&self) -> Sizes
+        ensures { result ≡ sizes self.now };
+
     /// How many berths the yard has.
     fn berths(&self) -> usize
-        ensures { result ≡ (sizes self.now).berths };
+        ensures { result ≡ (sizes self.now).berths }
+    {
+        self.sizes().berths
+    }
 
     /// How many files the yard has.
     fn files(&self) -> usize
-        ensures { result ≡ (sizes self.now).files };
+        ensures { result ≡ (sizes self.now).files }
+    {
+        self.sizes().files
+    }
 }

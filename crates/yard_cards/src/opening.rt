@@ -1,13 +1,12 @@
-ghost use Rattle.std.specs.Prelude.{◌≡◌, ◌<◌, [], length, if◌then◌else◌, nat_eq};
+ghost use Rattle.std.specs.Prelude.{◌≡◌, ◌<◌, [], length, if◌then◌else◌, nat_eq, OnOk};
 ghost use Rattle.history.specs.Tables.{Made, working_berth, empty_berth};
 ghost use Rattle.history.specs.Checks.{left};
 ghost use Rattle.history.specs.Open.{opened_berths, opened_copies, open_result};
 ghost use Rattle.history.specs.Law.{LawfulOpen};
-ghost use Rattle.yard_cards.specs.Cards.{opened_with, WhenOk};
 
 use crate::open_card::OpenCard;
 use clock::{Clock, Fault};
-use history::{Berth, Record, State};
+use history::{Berth, Record, Sizes, State};
 use yard_checks::check_sizes;
 
 // Berth 0 works with the seed pen, the others are empty.
@@ -58,15 +57,16 @@ pub fn open<C: Clock, P: Copy>(
     copies: &mut [Record<C, P>],
     payloads: &[P],
 ) -> Result<OpenCard, Fault>
-    ensures result { left (opened_with result) berths.new copies.new [] ≡ open_result C.Clock.meaning berths.old copies.old payloads.now }
-    ensures made { WhenOk result (Made C.Clock.meaning berths.new copies.new) }
-    ensures history { LawfulOpen C.Clock.meaning payloads.now (left (opened_with result) berths.new copies.new []) }
+    ensures result { left result berths.new copies.new [] ≡ open_result C.Clock.meaning berths.old copies.old payloads.now }
+    ensures made { OnOk result (Made C.Clock.meaning berths.new copies.new) }
+    ensures history { LawfulOpen C.Clock.meaning payloads.now (left result berths.new copies.new []) }
 {
-    check_sizes(berths.len(), payloads.len(), berths, copies)?;
-    open_berths::<C>(berths);
-    open_copies(copies, payloads);
-    Ok(OpenCard {
+    let sizes = Sizes {
         berths: berths.len(),
         files: payloads.len(),
-    })
+    };
+    check_sizes(sizes, berths, copies)?;
+    open_berths::<C>(berths);
+    open_copies(copies, payloads);
+    Ok(OpenCard { sizes })
 }

@@ -1,24 +1,28 @@
-ghost use Rattle.std.specs.Prelude.{◌≡◌};
-
 use crate::cards::{Card, Own};
+use history::Sizes;
+use std::marker::Model;
 
 /// The right to read a sealed yard, with its sizes. Only `seal` makes one.
 #[derive(Drop)]
 pub struct SealedCard {
-    pub(crate) berths: usize,
-    pub(crate) files: usize,
+    pub(crate) sizes: Sizes,
+}
+
+/// A clause sees a card as the sizes that it stands for.
+impl Model for SealedCard {
+    ghost use Rattle.history.specs.declared.tables.Sizes.{Sizes};
+
+    ghost Value = { Sizes };
+
+    ghost view = { λ c. c.sizes };
 }
 
 impl Own for SealedCard {}
 
 impl Card for SealedCard {
-    ghost sizes = { λ c. record { berths = c.berths; files = c.files } };
+    ghost sizes = { λ c. c };
 
-    fn berths(&self) -> usize {
-        self.berths
-    }
-
-    fn files(&self) -> usize {
-        self.files
+    fn sizes(&self) -> Sizes {
+        self.sizes
     }
 }

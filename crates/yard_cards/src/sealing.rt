@@ -6,11 +6,7 @@ use crate::sealed_card::SealedCard;
 /// Seals a yard: the open card is given away for a sealed one of the same
 /// sizes, so no further call can change the yard. The tables stay.
 pub fn seal(card: OpenCard) -> SealedCard
-    ensures berths { result.berths ≡ card.berths }
-    ensures files { result.files ≡ card.files }
+    ensures { result ≡ card }
 {
-    SealedCard {
-        berths: card.berths,
-        files: card.files,
-    }
+    SealedCard { sizes: card.sizes }
 }
