@@ -29,8 +29,8 @@ fn opening_berth<C: Clock>(b: usize) -> Berth<C::Pen>
 fn open_berths<C: Clock>(berths: &mut [Berth<C::Pen>])
     ensures { berths.new ≡ opened_berths C.Clock.meaning berths.old }
 {
-    for b in 0..berths.len() {
-        berths[b] = opening_berth::<C>(b);
+    for (b, berth) in berths.iter_mut().enumerate() {
+        *berth = opening_berth::<C>(b);
     }
 }
 
@@ -39,9 +39,9 @@ fn open_copies<C: Clock, P: Copy>(copies: &mut [Record<C, P>], payloads: &[P])
     requires { 0 < length payloads.now }
     ensures { copies.new ≡ opened_copies C.Clock.meaning payloads.now copies.old }
 {
-    for i in 0..copies.len() {
+    for (i, copy) in copies.iter_mut().enumerate() {
         let f = i % payloads.len();
-        copies[i] = Record {
+        *copy = Record {
             clock: C::blank(),
             payload: payloads[f],
         };
