@@ -1,5 +1,5 @@
 ghost use Rattle.std.specs.Prelude.{◌≡◌, []};
-ghost use Rattle.history.specs.Tables.{sizes, Made};
+ghost use Rattle.history.specs.Tables.{Made};
 ghost use Rattle.history.specs.Checks.{left};
 ghost use Rattle.history.specs.Edit.{edit_plain, edit_result};
 ghost use Rattle.history.specs.Calls.{Call, edit as edit_call};
@@ -7,30 +7,28 @@ ghost use Rattle.history.specs.Law.{LawfulAt};
 ghost use Rattle.yard_checks.specs.Passing.{all_pass};
 
 use clock::{Clock, Fault};
-use history::{Berth, Record};
+use history::{Berth, Record, Sizes};
 use yard_cards::{Card, OpenCard};
 use yard_checks::{Place, check_berth, check_file, check_sizes, check_working, place};
 
 fn check_edit<Q, C, P>(
-    many: usize,
-    files: usize,
+    sizes: Sizes,
     berths: &[Berth<Q>],
     copies: &[Record<C, P>],
     a: usize,
     f: usize,
 ) -> Result<(), Fault>
-    ensures { result ≡ all_pass (edit_plain (sizes many files) berths.now copies.now a f) }
+    ensures { result ≡ all_pass (edit_plain sizes berths.now copies.now a f) }
 {
-    check_sizes(many, files, berths, copies)?;
-    check_berth(many, files, a)?;
-    check_file(many, files, f)?;
+    check_sizes(sizes, berths, copies)?;
+    check_berth(sizes, a)?;
+    check_file(sizes, f)?;
     check_working(berths, a)
 }
 
 // The edit, under a card of these sizes.
 fn edit_copy<C: Clock, P: Copy>(
-    many: usize,
-    files: usize,
+    sizes: Sizes,
     berths: &[Berth<C::Pen>],
     copies: &mut [Record<C, P>],
     a: usize,
@@ -38,10 +36,10 @@ fn edit_copy<C: Clock, P: Copy>(
     payload: P,
 ) -> Result<(), Fault>
     requires made { Made C.Clock.meaning berths.now copies.old }
-    ensures { left result berths.now copies.new [] ≡ edit_result C.Clock.meaning (sizes many files) berths.now copies.old a f payload }
+    ensures { left result berths.now copies.new [] ≡ edit_result C.Clock.meaning sizes berths.now copies.old a f payload }
 {
-    check_edit(many, files, berths, copies, a, f)?;
-    let i = place(many, files, a, f);
+    check_edit(sizes, berths, copies, a, f)?;
+    let i = place(sizes, a, f);
     let clock = copies[i].clock.event(&berths[a].pen).at(a, f)?;
     copies[i] = Record { clock, payload };
     Ok(())
@@ -58,9 +56,9 @@ pub fn edit<C: Clock, P: Copy>(
     payload: P,
 ) -> Result<(), Fault>
     requires made { Made C.Clock.meaning berths.now copies.old }
-    ensures result { left result berths.now copies.new [] ≡ edit_result C.Clock.meaning (sizes card.now.berths card.now.files) berths.now copies.old a f payload }
+    ensures result { left result berths.now copies.new [] ≡ edit_result C.Clock.meaning card.now berths.now copies.old a f payload }
     ensures made { Made C.Clock.meaning berths.now copies.new }
-    ensures history { LawfulAt C.Clock.meaning (edit_call (sizes card.now.berths card.now.files) a f payload) berths.now copies.old (left result berths.now copies.new []) }
+    ensures history { LawfulAt C.Clock.meaning (edit_call card.now a f payload) berths.now copies.old (left result berths.now copies.new []) }
 {
-    edit_copy(card.berths(), card.files(), berths, copies, a, f, payload)
+    edit_copy(card.sizes(), berths, copies, a, f, payload)
 }

@@ -1,7 +1,7 @@
 ghost use Rattle.std.specs.Prelude.{◌≡◌, ◌<◌, not, [], length, Some, None};
 ghost use Rattle.clock.specs.Answers.{due};
 ghost use Rattle.clock.specs.declared.causes.Cause.TheVariants.{NoConflict};
-ghost use Rattle.history.specs.Tables.{sizes, is_conflict, Made};
+ghost use Rattle.history.specs.Tables.{is_conflict, Made};
 ghost use Rattle.history.specs.Checks.{fault, left};
 ghost use Rattle.history.specs.Settle.{settle_plain, settle_result};
 ghost use Rattle.history.specs.Calls.{settle as settle_call};
@@ -11,25 +11,24 @@ ghost use Rattle.yard_checks.specs.Ready.{Ready};
 ghost use Rattle.yard_editing.specs.Settling.{settle_late};
 
 use clock::{Cause, Clock, Fault, Verdict};
-use history::{Berth, Record};
+use history::{Berth, Record, Sizes};
 use yard_cards::{Card, OpenCard};
 use yard_checks::{Place, check_berth, check_file, check_sizes, check_two, check_working, place};
 
 fn check_settle<Q, C, P>(
-    many: usize,
-    files: usize,
+    sizes: Sizes,
     berths: &[Berth<Q>],
     copies: &[Record<C, P>],
     a: usize,
     b: usize,
     f: usize,
 ) -> Result<(), Fault>
-    ensures { result ≡ all_pass (settle_plain (sizes many files) berths.now copies.now a b f) }
+    ensures { result ≡ all_pass (settle_plain sizes berths.now copies.now a b f) }
 {
-    check_sizes(many, files, berths, copies)?;
-    check_berth(many, files, a)?;
-    check_berth(many, files, b)?;
-    check_file(many, files, f)?;
+    check_sizes(sizes, berths, copies)?;
+    check_berth(sizes, a)?;
+    check_berth(sizes, b)?;
+    check_file(sizes, f)?;
     check_two(a, b)?;
     check_working(berths, a)?;
     check_working(berths, b)
@@ -51,8 +50,7 @@ fn check_conflict(verdict: Verdict, b: usize, f: usize) -> Result<(), Fault>
 
 // The join of the two clocks and an event on it, into b's copy.
 fn settle_copy<C: Clock, P: Copy>(
-    many: usize,
-    files: usize,
+    sizes: Sizes,
     berths: &[Berth<C::Pen>],
     copies: &mut [Record<C, P>],
     a: usize,
@@ -61,11 +59,11 @@ fn settle_copy<C: Clock, P: Copy>(
     payload: P,
 ) -> Result<(), Fault>
     requires made { Made C.Clock.meaning berths.now copies.old }
-    requires ready { (Ready (sizes many files) (length berths.now) (length copies.old) a b) × (f < files) }
-    ensures { left result berths.now copies.new [] ≡ settle_late C.Clock.meaning (sizes many files) berths.now copies.old a b f payload }
+    requires ready { (Ready sizes (length berths.now) (length copies.old) a b) × (f < sizes.files) }
+    ensures { left result berths.now copies.new [] ≡ settle_late C.Clock.meaning sizes berths.now copies.old a b f payload }
 {
-    let i = place(many, files, b, f);
-    let j = place(many, files, a, f);
+    let i = place(sizes, b, f);
+    let j = place(sizes, a, f);
     let theirs = copies[j].clock;
     let ours = copies[i].clock;
     check_conflict(ours.compare(&theirs), b, f)?;
@@ -77,8 +75,7 @@ fn settle_copy<C: Clock, P: Copy>(
 
 // The settling, under a card of these sizes.
 fn settle_berth<C: Clock, P: Copy>(
-    many: usize,
-    files: usize,
+    sizes: Sizes,
     berths: &[Berth<C::Pen>],
     copies: &mut [Record<C, P>],
     a: usize,
@@ -87,10 +84,10 @@ fn settle_berth<C: Clock, P: Copy>(
     payload: P,
 ) -> Result<(), Fault>
     requires made { Made C.Clock.meaning berths.now copies.old }
-    ensures { left result berths.now copies.new [] ≡ settle_result C.Clock.meaning (sizes many files) berths.now copies.old a b f payload }
+    ensures { left result berths.now copies.new [] ≡ settle_result C.Clock.meaning sizes berths.now copies.old a b f payload }
 {
-    check_settle(many, files, berths, copies, a, b, f)?;
-    settle_copy(many, files, berths, copies, a, b, f, payload)
+    check_settle(sizes, berths, copies, a, b, f)?;
+    settle_copy(sizes, berths, copies, a, b, f, payload)
 }
 
 /// Working berth `b` ends the conflict of its copy of file `f` with `a`'s: its
@@ -106,18 +103,9 @@ pub fn settle<C: Clock, P: Copy>(
     payload: P,
 ) -> Result<(), Fault>
     requires made { Made C.Clock.meaning berths.now copies.old }
-    ensures result { left result berths.now copies.new [] ≡ settle_result C.Clock.meaning (sizes card.now.berths card.now.files) berths.now copies.old a b f payload }
+    ensures result { left result berths.now copies.new [] ≡ settle_result C.Clock.meaning card.now berths.now copies.old a b f payload }
     ensures made { Made C.Clock.meaning berths.now copies.new }
-    ensures history { LawfulAt C.Clock.meaning (settle_call (sizes card.now.berths card.now.files) a b f payload) berths.now copies.old (left result berths.now copies.new []) }
+    ensures history { LawfulAt C.Clock.meaning (settle_call card.now a b f payload) berths.now copies.old (left result berths.now copies.new []) }
 {
-    settle_berth(
-        card.berths(),
-        card.files(),
-        berths,
-        copies,
-        a,
-        b,
-        f,
-        payload,
-    )
+    settle_berth(card.sizes(), berths, copies, a, b, f, payload)
 }

@@ -1,5 +1,5 @@
 ghost use Rattle.std.specs.Prelude.{◌≡◌, []};
-ghost use Rattle.history.specs.Tables.{sizes, Made};
+ghost use Rattle.history.specs.Tables.{Made};
 ghost use Rattle.history.specs.Checks.{left};
 ghost use Rattle.history.specs.Drop.{drop_checks, drop_result};
 ghost use Rattle.history.specs.Calls.{drop as drop_call};
@@ -7,36 +7,34 @@ ghost use Rattle.history.specs.Law.{LawfulAt};
 ghost use Rattle.yard_checks.specs.Passing.{all_pass};
 
 use clock::{Clock, Fault};
-use history::{Berth, Record, State};
+use history::{Berth, Record, Sizes, State};
 use yard_cards::{Card, OpenCard};
 use yard_checks::{check_berth, check_sizes, check_working};
 
 fn check_drop<Q, C, P>(
-    many: usize,
-    files: usize,
+    sizes: Sizes,
     berths: &[Berth<Q>],
     copies: &[Record<C, P>],
     a: usize,
 ) -> Result<(), Fault>
-    ensures { result ≡ all_pass (drop_checks (sizes many files) berths.now copies.now a) }
+    ensures { result ≡ all_pass (drop_checks sizes berths.now copies.now a) }
 {
-    check_sizes(many, files, berths, copies)?;
-    check_berth(many, files, a)?;
+    check_sizes(sizes, berths, copies)?;
+    check_berth(sizes, a)?;
     check_working(berths, a)
 }
 
 // The drop, under a card of these sizes.
 fn drop_berth<C: Clock, P: Copy>(
-    many: usize,
-    files: usize,
+    sizes: Sizes,
     berths: &mut [Berth<C::Pen>],
     copies: &[Record<C, P>],
     a: usize,
 ) -> Result<(), Fault>
     requires made { Made C.Clock.meaning berths.old copies.now }
-    ensures { left result berths.new copies.now [] ≡ drop_result C.Clock.meaning (sizes many files) berths.old copies.now a }
+    ensures { left result berths.new copies.now [] ≡ drop_result C.Clock.meaning sizes berths.old copies.now a }
 {
-    check_drop(many, files, berths, copies, a)?;
+    check_drop(sizes, berths, copies, a)?;
     berths[a] = Berth {
         state: State::Empty,
         pen: C::no_pen(),
@@ -53,9 +51,9 @@ pub fn drop<C: Clock, P: Copy>(
     a: usize,
 ) -> Result<(), Fault>
     requires made { Made C.Clock.meaning berths.old copies.now }
-    ensures result { left result berths.new copies.now [] ≡ drop_result C.Clock.meaning (sizes card.now.berths card.now.files) berths.old copies.now a }
+    ensures result { left result berths.new copies.now [] ≡ drop_result C.Clock.meaning card.now berths.old copies.now a }
     ensures made { Made C.Clock.meaning berths.new copies.now }
-    ensures history { LawfulAt C.Clock.meaning (drop_call (sizes card.now.berths card.now.files) a) berths.old copies.now (left result berths.new copies.now []) }
+    ensures history { LawfulAt C.Clock.meaning (drop_call card.now a) berths.old copies.now (left result berths.new copies.now []) }
 {
-    drop_berth(card.berths(), card.files(), berths, copies, a)
+    drop_berth(card.sizes(), berths, copies, a)
 }

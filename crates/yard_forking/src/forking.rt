@@ -1,5 +1,5 @@
 ghost use Rattle.std.specs.Prelude.{◌≡◌, [], length, ◌≢◌};
-ghost use Rattle.history.specs.Tables.{sizes, Made, row, copy_from};
+ghost use Rattle.history.specs.Tables.{Made, row, copy_from};
 ghost use Rattle.history.specs.Checks.{left};
 ghost use Rattle.history.specs.Fork.{fork_plain, fork_result};
 ghost use Rattle.history.specs.Calls.{fork as fork_call};
@@ -8,42 +8,35 @@ ghost use Rattle.yard_checks.specs.Passing.{all_pass};
 ghost use Rattle.yard_checks.specs.Ready.{Ready};
 
 use clock::{Clock, Fault};
-use history::{Berth, Record, State};
+use history::{Berth, Record, Sizes, State};
 use yard_cards::{Card, OpenCard};
 use yard_checks::{Place, check_berth, check_empty, check_sizes, check_two, check_working, place};
 
 fn check_fork<Q, C, P>(
-    many: usize,
-    files: usize,
+    sizes: Sizes,
     berths: &[Berth<Q>],
     copies: &[Record<C, P>],
     a: usize,
     b: usize,
 ) -> Result<(), Fault>
-    ensures { result ≡ all_pass (fork_plain (sizes many files) berths.now copies.now a b) }
+    ensures { result ≡ all_pass (fork_plain sizes berths.now copies.now a b) }
 {
-    check_sizes(many, files, berths, copies)?;
-    check_berth(many, files, a)?;
-    check_berth(many, files, b)?;
+    check_sizes(sizes, berths, copies)?;
+    check_berth(sizes, a)?;
+    check_berth(sizes, b)?;
     check_two(a, b)?;
     check_working(berths, a)?;
     check_empty(berths, b)
 }
 
 // Berth b gets a's copies.
-fn copy_files<C: Copy, P: Copy>(
-    many: usize,
-    files: usize,
-    copies: &mut [Record<C, P>],
-    a: usize,
-    b: usize,
-)
-    requires { (Ready (sizes many files) many (length copies.old) a b) × ((a ≢ b)) }
-    ensures { copies.new ≡ row files copies.old b (copy_from files copies.old a) }
+fn copy_files<C: Copy, P: Copy>(sizes: Sizes, copies: &mut [Record<C, P>], a: usize, b: usize)
+    requires { (Ready sizes sizes.berths (length copies.old) a b) × ((a ≢ b)) }
+    ensures { copies.new ≡ row sizes.files copies.old b (copy_from sizes.files copies.old a) }
 {
-    for f in 0..files {
-        let i = place(many, files, b, f);
-        let j = place(many, files, a, f);
+    for f in 0..sizes.files {
+        let i = place(sizes, b, f);
+        let j = place(sizes, a, f);
         let theirs = copies[j];
         copies[i] = theirs;
     }
@@ -51,17 +44,16 @@ fn copy_files<C: Copy, P: Copy>(
 
 // The fork, under a card of these sizes.
 fn fork_berth<C: Clock, P: Copy>(
-    many: usize,
-    files: usize,
+    sizes: Sizes,
     berths: &mut [Berth<C::Pen>],
     copies: &mut [Record<C, P>],
     a: usize,
     b: usize,
 ) -> Result<(), Fault>
     requires made { Made C.Clock.meaning berths.old copies.old }
-    ensures { left result berths.new copies.new [] ≡ fork_result C.Clock.meaning (sizes many files) berths.old copies.old a b }
+    ensures { left result berths.new copies.new [] ≡ fork_result C.Clock.meaning sizes berths.old copies.old a b }
 {
-    check_fork(many, files, berths, copies, a, b)?;
+    check_fork(sizes, berths, copies, a, b)?;
     let halves = C::fork(&berths[a].pen).at_berth(a)?;
     berths[a] = Berth {
         state: State::Working,
@@ -71,7 +63,7 @@ fn fork_berth<C: Clock, P: Copy>(
         state: State::Working,
         pen: halves.1,
     };
-    copy_files(many, files, copies, a, b);
+    copy_files(sizes, copies, a, b);
     Ok(())
 }
 
@@ -86,9 +78,9 @@ pub fn fork<C: Clock, P: Copy>(
     b: usize,
 ) -> Result<(), Fault>
     requires made { Made C.Clock.meaning berths.old copies.old }
-    ensures result { left result berths.new copies.new [] ≡ fork_result C.Clock.meaning (sizes card.now.berths card.now.files) berths.old copies.old a b }
+    ensures result { left result berths.new copies.new [] ≡ fork_result C.Clock.meaning card.now berths.old copies.old a b }
     ensures made { Made C.Clock.meaning berths.new copies.new }
-    ensures history { LawfulAt C.Clock.meaning (fork_call (sizes card.now.berths card.now.files) a b) berths.old copies.old (left result berths.new copies.new []) }
+    ensures history { LawfulAt C.Clock.meaning (fork_call card.now a b) berths.old copies.old (left result berths.new copies.new []) }
 {
-    fork_berth(card.berths(), card.files(), berths, copies, a, b)
+    fork_berth(card.sizes(), berths, copies, a, b)
 }

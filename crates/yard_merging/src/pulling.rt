@@ -1,5 +1,5 @@
 ghost use Rattle.std.specs.Prelude.{◌≡◌, ◌≤◌, length, ◌≢◌};
-ghost use Rattle.history.specs.Tables.{sizes, Made, row, newer_from, judged, reported, count, is_stale, is_conflict};
+ghost use Rattle.history.specs.Tables.{Made, row, newer_from, judged, reported, count, is_stale, is_conflict};
 ghost use Rattle.history.specs.Checks.{left};
 ghost use Rattle.history.specs.Pull.{pull_checks, pull_result};
 ghost use Rattle.history.specs.Calls.{pull as pull_call};
@@ -10,52 +10,50 @@ ghost use Rattle.yard_checks.specs.Entries.{Clocks};
 
 use crate::taking::take_newer;
 use clock::{Clock, Fault, Verdict};
-use history::{Berth, Record};
+use history::{Berth, Record, Sizes};
 use yard_cards::{Card, OpenCard};
 use yard_checks::{check_berth, check_buffer, check_sizes, check_two, check_working, place};
 
 fn check_pull<Q, C, P>(
-    many: usize,
-    files: usize,
+    sizes: Sizes,
     berths: &[Berth<Q>],
     copies: &[Record<C, P>],
     bytes: &[u8],
     a: usize,
     b: usize,
 ) -> Result<(), Fault>
-    ensures { result ≡ all_pass (pull_checks (sizes many files) berths.now copies.now a b bytes.now) }
+    ensures { result ≡ all_pass (pull_checks sizes berths.now copies.now a b bytes.now) }
 {
-    check_sizes(many, files, berths, copies)?;
-    check_berth(many, files, a)?;
-    check_berth(many, files, b)?;
+    check_sizes(sizes, berths, copies)?;
+    check_berth(sizes, a)?;
+    check_berth(sizes, b)?;
     check_two(a, b)?;
     check_working(berths, a)?;
     check_working(berths, b)?;
-    check_buffer(many, files, bytes)
+    check_buffer(sizes, bytes)
 }
 
 fn pull_files<C: Clock, P: Copy>(
-    many: usize,
-    files: usize,
+    sizes: Sizes,
     copies: &mut [Record<C, P>],
     bytes: &mut [u8],
     a: usize,
     b: usize,
 ) -> (usize, usize)
-    requires ready { (Ready (sizes many files) many (length copies.old) a b) × (((a ≢ b)) × (files ≤ length bytes.old)) }
+    requires ready { (Ready sizes sizes.berths (length copies.old) a b) × (((a ≢ b)) × (sizes.files ≤ length bytes.old)) }
     requires made { Clocks C.Clock.meaning copies.old }
-    ensures copies { copies.new ≡ row files copies.old b (newer_from files copies.old C.Clock.meaning a b) }
-    ensures bytes { bytes.new ≡ reported files (judged C.Clock.meaning files copies.old b a) bytes.old }
-    ensures taken { result.0 ≡ count files (λ f. is_stale (judged C.Clock.meaning files copies.old b a f)) }
-    ensures conflicts { result.1 ≡ count files (λ f. is_conflict (judged C.Clock.meaning files copies.old b a f)) }
+    ensures copies { copies.new ≡ row sizes.files copies.old b (newer_from sizes.files copies.old C.Clock.meaning a b) }
+    ensures bytes { bytes.new ≡ reported sizes.files (judged C.Clock.meaning sizes.files copies.old b a) bytes.old }
+    ensures taken { result.0 ≡ count sizes.files (λ f. is_stale (judged C.Clock.meaning sizes.files copies.old b a f)) }
+    ensures conflicts { result.1 ≡ count sizes.files (λ f. is_conflict (judged C.Clock.meaning sizes.files copies.old b a f)) }
 {
     let mut taken = 0;
     let mut conflicts = 0;
-    for f in 0..files {
-        let i = place(many, files, b, f);
-        let j = place(many, files, a, f);
+    for f in 0..sizes.files {
+        let i = place(sizes, b, f);
+        let j = place(sizes, a, f);
         let verdict = take_newer(copies, i, j);
-        bytes[f] = verdict.byte();
+        bytes[f] = verdict.into();
         match verdict {
             Verdict::Stale => taken += 1,
             Verdict::Conflict => conflicts += 1,
@@ -67,8 +65,7 @@ fn pull_files<C: Clock, P: Copy>(
 
 // The pull, under a card of these sizes.
 fn pull_copies<C: Clock, P: Copy>(
-    many: usize,
-    files: usize,
+    sizes: Sizes,
     berths: &[Berth<C::Pen>],
     copies: &mut [Record<C, P>],
     bytes: &mut [u8],
@@ -76,10 +73,10 @@ fn pull_copies<C: Clock, P: Copy>(
     b: usize,
 ) -> Result<(usize, usize), Fault>
     requires made { Made C.Clock.meaning berths.now copies.old }
-    ensures { left result berths.now copies.new bytes.new ≡ pull_result C.Clock.meaning (sizes many files) berths.now copies.old a b bytes.old }
+    ensures { left result berths.now copies.new bytes.new ≡ pull_result C.Clock.meaning sizes berths.now copies.old a b bytes.old }
 {
-    check_pull(many, files, berths, copies, bytes, a, b)?;
-    Ok(pull_files(many, files, copies, bytes, a, b))
+    check_pull(sizes, berths, copies, bytes, a, b)?;
+    Ok(pull_files(sizes, copies, bytes, a, b))
 }
 
 /// Working berth `b` takes `a`'s copy of each file in which it is stale. Byte f
@@ -95,9 +92,9 @@ pub fn pull<C: Clock, P: Copy>(
     b: usize,
 ) -> Result<(usize, usize), Fault>
     requires made { Made C.Clock.meaning berths.now copies.old }
-    ensures result { left result berths.now copies.new bytes.new ≡ pull_result C.Clock.meaning (sizes card.now.berths card.now.files) berths.now copies.old a b bytes.old }
+    ensures result { left result berths.now copies.new bytes.new ≡ pull_result C.Clock.meaning card.now berths.now copies.old a b bytes.old }
     ensures made { Made C.Clock.meaning berths.now copies.new }
-    ensures history { LawfulAt C.Clock.meaning (pull_call (sizes card.now.berths card.now.files) a b bytes.old) berths.now copies.old (left result berths.now copies.new bytes.new) }
+    ensures history { LawfulAt C.Clock.meaning (pull_call card.now a b bytes.old) berths.now copies.old (left result berths.now copies.new bytes.new) }
 {
-    pull_copies(card.berths(), card.files(), berths, copies, bytes, a, b)
+    pull_copies(card.sizes(), berths, copies, bytes, a, b)
 }

@@ -1,6 +1,6 @@
 ghost use Rattle.std.specs.Prelude.{◌≡◌, ◌<◌, [], ◌∷◌, ◌++◌, length, set};
 ghost use Rattle.clock.specs.Answers.{answered};
-ghost use Rattle.history.specs.Tables.{sizes, pen_at, working_berth, Made};
+ghost use Rattle.history.specs.Tables.{pen_at, working_berth, Made};
 ghost use Rattle.history.specs.declared.tables.State.TheVariants.{Empty};
 ghost use Rattle.history.specs.Checks.{left, some_conflict};
 ghost use Rattle.history.specs.Retire.{retire_plain, retire_result};
@@ -12,23 +12,22 @@ ghost use Rattle.yard_checks.specs.Entries.{Clocks, Pens};
 
 use crate::taking::take_files;
 use clock::{Cause, Clock, Fault, Verdict};
-use history::{Berth, Record, State};
+use history::{Berth, Record, Sizes, State};
 use yard_cards::{Card, OpenCard};
 use yard_checks::{Place, check_berth, check_sizes, check_two, check_working, place};
 
 fn check_two_working<Q, C, P>(
-    many: usize,
-    files: usize,
+    sizes: Sizes,
     berths: &[Berth<Q>],
     copies: &[Record<C, P>],
     a: usize,
     b: usize,
 ) -> Result<(), Fault>
-    ensures { result ≡ all_pass (retire_plain (sizes many files) berths.now copies.now a b) }
+    ensures { result ≡ all_pass (retire_plain sizes berths.now copies.now a b) }
 {
-    check_sizes(many, files, berths, copies)?;
-    check_berth(many, files, a)?;
-    check_berth(many, files, b)?;
+    check_sizes(sizes, berths, copies)?;
+    check_berth(sizes, a)?;
+    check_berth(sizes, b)?;
     check_two(a, b)?;
     check_working(berths, a)?;
     check_working(berths, b)
@@ -36,19 +35,18 @@ fn check_two_working<Q, C, P>(
 
 // 8: no file is in conflict.
 fn check_calm<C: Clock, P: Copy>(
-    many: usize,
-    files: usize,
+    sizes: Sizes,
     copies: &[Record<C, P>],
     a: usize,
     b: usize,
 ) -> Result<(), Fault>
-    requires ready { Ready (sizes many files) many (length copies.now) a b }
+    requires ready { Ready sizes sizes.berths (length copies.now) a b }
     requires made { Clocks C.Clock.meaning copies.now }
-    ensures { result ≡ passing (some_conflict C.Clock.meaning files copies.now a b) }
+    ensures { result ≡ passing (some_conflict C.Clock.meaning sizes.files copies.now a b) }
 {
-    for f in 0..files {
-        let i = place(many, files, b, f);
-        let j = place(many, files, a, f);
+    for f in 0..sizes.files {
+        let i = place(sizes, b, f);
+        let j = place(sizes, a, f);
         let verdict = copies[i].clock.compare(&copies[j].clock);
         if let Verdict::Conflict = verdict {
             return Err(Fault {
@@ -62,18 +60,17 @@ fn check_calm<C: Clock, P: Copy>(
 }
 
 fn check_retire<C: Clock, P: Copy>(
-    many: usize,
-    files: usize,
+    sizes: Sizes,
     berths: &[Berth<C::Pen>],
     copies: &[Record<C, P>],
     a: usize,
     b: usize,
 ) -> Result<(), Fault>
     requires { Clocks C.Clock.meaning copies.now }
-    ensures { result ≡ all_pass (retire_plain (sizes many files) berths.now copies.now a b ++ (some_conflict C.Clock.meaning files copies.now a b ∷ [])) }
+    ensures { result ≡ all_pass (retire_plain sizes berths.now copies.now a b ++ (some_conflict C.Clock.meaning sizes.files copies.now a b ∷ [])) }
 {
-    check_two_working(many, files, berths, copies, a, b)?;
-    check_calm(many, files, copies, a, b)
+    check_two_working(sizes, berths, copies, a, b)?;
+    check_calm(sizes, copies, a, b)
 }
 
 fn united_pen<C: Clock>(berths: &[Berth<C::Pen>], a: usize, b: usize) -> Result<C::Pen, Fault>
@@ -101,20 +98,19 @@ fn hand_over<Q: Copy>(berths: &mut [Berth<Q>], a: usize, b: usize, pen: Q, none:
 
 // The retiring, under a card of these sizes.
 fn retire_berth<C: Clock, P: Copy>(
-    many: usize,
-    files: usize,
+    sizes: Sizes,
     berths: &mut [Berth<C::Pen>],
     copies: &mut [Record<C, P>],
     a: usize,
     b: usize,
 ) -> Result<(), Fault>
     requires made { Made C.Clock.meaning berths.old copies.old }
-    ensures { left result berths.new copies.new [] ≡ retire_result C.Clock.meaning (sizes many files) berths.old copies.old a b }
+    ensures { left result berths.new copies.new [] ≡ retire_result C.Clock.meaning sizes berths.old copies.old a b }
 {
-    check_retire(many, files, berths, copies, a, b)?;
+    check_retire(sizes, berths, copies, a, b)?;
     let pen = united_pen::<C>(berths, a, b).at_berth(b)?;
     hand_over(berths, a, b, pen, C::no_pen());
-    take_files(many, files, copies, a, b);
+    take_files(sizes, copies, a, b);
     Ok(())
 }
 
@@ -130,9 +126,9 @@ pub fn retire<C: Clock, P: Copy>(
     b: usize,
 ) -> Result<(), Fault>
     requires made { Made C.Clock.meaning berths.old copies.old }
-    ensures result { left result berths.new copies.new [] ≡ retire_result C.Clock.meaning (sizes card.now.berths card.now.files) berths.old copies.old a b }
+    ensures result { left result berths.new copies.new [] ≡ retire_result C.Clock.meaning card.now berths.old copies.old a b }
     ensures made { Made C.Clock.meaning berths.new copies.new }
-    ensures history { LawfulAt C.Clock.meaning (retire_call (sizes card.now.berths card.now.files) a b) berths.old copies.old (left result berths.new copies.new []) }
+    ensures history { LawfulAt C.Clock.meaning (retire_call card.now a b) berths.old copies.old (left result berths.new copies.new []) }
 {
-    retire_berth(card.berths(), card.files(), berths, copies, a, b)
+    retire_berth(card.sizes(), berths, copies, a, b)
 }

@@ -1,11 +1,11 @@
 ghost use Rattle.std.specs.Prelude.{◌≡◌, ◌<◌, length, ◌≢◌};
-ghost use Rattle.history.specs.Tables.{sizes, row, newer_from};
+ghost use Rattle.history.specs.Tables.{row, newer_from};
 ghost use Rattle.yard_checks.specs.Ready.{Ready};
 ghost use Rattle.yard_checks.specs.Entries.{Clocks};
 ghost use Rattle.yard_merging.specs.Taking.{verdict_on, took};
 
 use clock::{Clock, Verdict};
-use history::Record;
+use history::{Record, Sizes};
 use yard_checks::place;
 
 // Record i becomes record j where it is stale against it. The verdict beforehand.
@@ -30,19 +30,18 @@ pub(crate) fn take_newer<C: Clock, P: Copy>(
 
 // Berth b takes a's copy of each file in which it is stale.
 pub(crate) fn take_files<C: Clock, P: Copy>(
-    many: usize,
-    files: usize,
+    sizes: Sizes,
     copies: &mut [Record<C, P>],
     a: usize,
     b: usize,
 )
-    requires ready { (Ready (sizes many files) many (length copies.old) a b) × ((a ≢ b)) }
+    requires ready { (Ready sizes sizes.berths (length copies.old) a b) × ((a ≢ b)) }
     requires made { Clocks C.Clock.meaning copies.old }
-    ensures { copies.new ≡ row files copies.old b (newer_from files copies.old C.Clock.meaning a b) }
+    ensures { copies.new ≡ row sizes.files copies.old b (newer_from sizes.files copies.old C.Clock.meaning a b) }
 {
-    for f in 0..files {
-        let i = place(many, files, b, f);
-        let j = place(many, files, a, f);
+    for f in 0..sizes.files {
+        let i = place(sizes, b, f);
+        let j = place(sizes, a, f);
         take_newer(copies, i, j);
     }
 }

@@ -1,5 +1,5 @@
 ghost use Rattle.std.specs.Prelude.{◌≡◌, []};
-ghost use Rattle.history.specs.Tables.{sizes, Made};
+ghost use Rattle.history.specs.Tables.{Made};
 ghost use Rattle.history.specs.Checks.{left};
 ghost use Rattle.history.specs.Judge.{judge_checks, judge_result};
 ghost use Rattle.history.specs.Calls.{judge as judge_call};
@@ -7,32 +7,30 @@ ghost use Rattle.history.specs.Law.{LawfulAt};
 ghost use Rattle.yard_checks.specs.Passing.{all_pass};
 
 use clock::{Clock, Fault, Verdict};
-use history::{Berth, Record};
+use history::{Berth, Record, Sizes};
 use yard_cards::Card;
 use yard_checks::{check_berth, check_file, check_sizes, check_working, place};
 
 fn check_judge<Q, C, P>(
-    many: usize,
-    files: usize,
+    sizes: Sizes,
     berths: &[Berth<Q>],
     copies: &[Record<C, P>],
     a: usize,
     b: usize,
     f: usize,
 ) -> Result<(), Fault>
-    ensures { result ≡ all_pass (judge_checks (sizes many files) berths.now copies.now a b f) }
+    ensures { result ≡ all_pass (judge_checks sizes berths.now copies.now a b f) }
 {
-    check_sizes(many, files, berths, copies)?;
-    check_berth(many, files, a)?;
-    check_berth(many, files, b)?;
-    check_file(many, files, f)?;
+    check_sizes(sizes, berths, copies)?;
+    check_berth(sizes, a)?;
+    check_berth(sizes, b)?;
+    check_file(sizes, f)?;
     check_working(berths, a)?;
     check_working(berths, b)
 }
 
 fn judge_copies<C: Clock, P: Copy>(
-    many: usize,
-    files: usize,
+    sizes: Sizes,
     berths: &[Berth<C::Pen>],
     copies: &[Record<C, P>],
     a: usize,
@@ -40,11 +38,11 @@ fn judge_copies<C: Clock, P: Copy>(
     f: usize,
 ) -> Result<Verdict, Fault>
     requires { Made C.Clock.meaning berths.now copies.now }
-    ensures { left result berths.now copies.now [] ≡ judge_result C.Clock.meaning (sizes many files) berths.now copies.now a b f }
+    ensures { left result berths.now copies.now [] ≡ judge_result C.Clock.meaning sizes berths.now copies.now a b f }
 {
-    check_judge(many, files, berths, copies, a, b, f)?;
-    let i = place(many, files, a, f);
-    let j = place(many, files, b, f);
+    check_judge(sizes, berths, copies, a, b, f)?;
+    let i = place(sizes, a, f);
+    let j = place(sizes, b, f);
     let verdict = copies[i].clock.compare(&copies[j].clock);
     Ok(verdict)
 }
@@ -63,5 +61,5 @@ pub fn judge<K: Card, C: Clock, P: Copy>(
     ensures result { left result berths.now copies.now [] ≡ judge_result C.Clock.meaning (K.Card.sizes card.now) berths.now copies.now a b f }
     ensures history { LawfulAt C.Clock.meaning (judge_call (K.Card.sizes card.now) a b f) berths.now copies.now (left result berths.now copies.now []) }
 {
-    judge_copies(card.berths(), card.files(), berths, copies, a, b, f)
+    judge_copies(card.sizes(), berths, copies, a, b, f)
 }

@@ -1,5 +1,5 @@
 ghost use Rattle.std.specs.Prelude.{◌≡◌, ◌≤◌, length};
-ghost use Rattle.history.specs.Tables.{sizes, Made, judged, reported};
+ghost use Rattle.history.specs.Tables.{Made, judged, reported};
 ghost use Rattle.history.specs.Checks.{left};
 ghost use Rattle.history.specs.Report.{report_checks, report_result, counts, twins as twins_of};
 ghost use Rattle.history.specs.Calls.{report as report_call};
@@ -9,53 +9,51 @@ ghost use Rattle.yard_checks.specs.Ready.{Ready};
 ghost use Rattle.yard_checks.specs.Entries.{Clocks};
 
 use clock::{Clock, Fault, Verdict};
-use history::{Berth, Record};
+use history::{Berth, Record, Sizes};
 use payload::Payload;
 use yard_cards::Card;
 use yard_checks::{check_berth, check_buffer, check_sizes, check_working, place};
 
 fn check_report<Q, C, P>(
-    many: usize,
-    files: usize,
+    sizes: Sizes,
     berths: &[Berth<Q>],
     copies: &[Record<C, P>],
     bytes: &[u8],
     a: usize,
     b: usize,
 ) -> Result<(), Fault>
-    ensures { result ≡ all_pass (report_checks (sizes many files) berths.now copies.now a b bytes.now) }
+    ensures { result ≡ all_pass (report_checks sizes berths.now copies.now a b bytes.now) }
 {
-    check_sizes(many, files, berths, copies)?;
-    check_berth(many, files, a)?;
-    check_berth(many, files, b)?;
+    check_sizes(sizes, berths, copies)?;
+    check_berth(sizes, a)?;
+    check_berth(sizes, b)?;
     check_working(berths, a)?;
     check_working(berths, b)?;
-    check_buffer(many, files, bytes)
+    check_buffer(sizes, bytes)
 }
 
 fn report_files<C: Clock, P: Payload>(
-    many: usize,
-    files: usize,
+    sizes: Sizes,
     copies: &[Record<C, P>],
     bytes: &mut [u8],
     a: usize,
     b: usize,
 ) -> (usize, usize, usize, usize, usize)
-    requires ready { (Ready (sizes many files) many (length copies.now) a b) × (files ≤ length bytes.old) }
+    requires ready { (Ready sizes sizes.berths (length copies.now) a b) × (sizes.files ≤ length bytes.old) }
     requires made { Clocks C.Clock.meaning copies.now }
-    ensures bytes { bytes.new ≡ reported files (judged C.Clock.meaning files copies.now a b) bytes.old }
-    ensures counts { result ≡ counts files (judged C.Clock.meaning files copies.now a b) (twins_of files copies.now P.Payload.same a b) }
+    ensures bytes { bytes.new ≡ reported sizes.files (judged C.Clock.meaning sizes.files copies.now a b) bytes.old }
+    ensures counts { result ≡ counts sizes.files (judged C.Clock.meaning sizes.files copies.now a b) (twins_of sizes.files copies.now P.Payload.same a b) }
 {
     let mut equal = 0;
     let mut stale = 0;
     let mut ahead = 0;
     let mut conflicts = 0;
     let mut twins = 0;
-    for f in 0..files {
-        let i = place(many, files, a, f);
-        let j = place(many, files, b, f);
+    for f in 0..sizes.files {
+        let i = place(sizes, a, f);
+        let j = place(sizes, b, f);
         let verdict = copies[i].clock.compare(&copies[j].clock);
-        bytes[f] = verdict.byte();
+        bytes[f] = verdict.into();
         match verdict {
             Verdict::Equal => equal += 1,
             Verdict::Stale => stale += 1,
@@ -72,8 +70,7 @@ fn report_files<C: Clock, P: Payload>(
 }
 
 fn report_copies<C: Clock, P: Payload>(
-    many: usize,
-    files: usize,
+    sizes: Sizes,
     berths: &[Berth<C::Pen>],
     copies: &[Record<C, P>],
     bytes: &mut [u8],
@@ -81,10 +78,10 @@ fn report_copies<C: Clock, P: Payload>(
     b: usize,
 ) -> Result<(usize, usize, usize, usize, usize), Fault>
     requires { Made C.Clock.meaning berths.now copies.now }
-    ensures { left result berths.now copies.now bytes.new ≡ report_result C.Clock.meaning (sizes many files) berths.now copies.now P.Payload.same a b bytes.old }
+    ensures { left result berths.now copies.now bytes.new ≡ report_result C.Clock.meaning sizes berths.now copies.now P.Payload.same a b bytes.old }
 {
-    check_report(many, files, berths, copies, bytes, a, b)?;
-    Ok(report_files(many, files, copies, bytes, a, b))
+    check_report(sizes, berths, copies, bytes, a, b)?;
+    Ok(report_files(sizes, copies, bytes, a, b))
 }
 
 /// The verdict on each of berth `a`'s copies against `b`'s: byte f of the buffer
@@ -103,5 +100,5 @@ pub fn report<K: Card, C: Clock, P: Payload>(
     ensures result { left result berths.now copies.now bytes.new ≡ report_result C.Clock.meaning (K.Card.sizes card.now) berths.now copies.now P.Payload.same a b bytes.old }
     ensures history { LawfulCall C.Clock.meaning P.Payload.same (report_call (K.Card.sizes card.now) a b bytes.old) berths.now copies.now (left result berths.now copies.now bytes.new) }
 {
-    report_copies(card.berths(), card.files(), berths, copies, bytes, a, b)
+    report_copies(card.sizes(), berths, copies, bytes, a, b)
 }

@@ -1,15 +1,13 @@
 use Rattle.std.proofs.Common.{◌∙◌}
-use Rattle.history.specs.Tables.{sizes}
 use Rattle.history.specs.Settle.{settle_result}
 use Rattle.history.specs.Calls.{settle}
 use Rattle.yard_checks.proofs.Clauses.{made_from, lawful_from, any}
-use Rattle.yard_cards.specs.Cards.{card_sizes}
 use Rattle.yard_editing.proofs.settling.settle.Goals as goal
 
 pub returns : goal.returns
 returns g c =
-    let call = settle (card_sizes c.args.card.now) c.args.a c.args.b c.args.f c.args.payload in
-    let e = c.settle_berth.ensures ∙ (λ k. settle_result g.C.Clock.meaning (sizes (c.berths.ensures k) (c.files.ensures k)) c.args.berths.now c.args.copies.now c.args.a c.args.b c.args.f c.args.payload) in
+    let call = settle c.args.card.now c.args.a c.args.b c.args.f c.args.payload in
+    let e = c.settle_berth.ensures ∙ (λ k. settle_result g.C.Clock.meaning (c.sizes.ensures k) c.args.berths.now c.args.copies.now c.args.a c.args.b c.args.f c.args.payload) in
     record {
       result = e;
       made = made_from g.C.Clock.meaning g.met.C.Clock.sound any call c.args.berths.now c.args.copies.now _ e c.requires.made;

@@ -11,14 +11,14 @@ use Rattle.yard_merging.proofs.pulling.pull_files.Goals as goal
 use Rattle.yard_merging.proofs.pulling.pull_files.Goals.{in-Stale, in-Conflict, in_default}
 
 pub loop-f-init : goal.loop-f-init
-loop-f-init g c = (taking-none g.C.Clock.meaning c.args.files c.args.a c.args.b c.args.copies.now c.requires.ready.0.some_files, c.requires.made, refl, reported-none (judged g.C.Clock.meaning c.args.files c.args.copies.now c.args.b c.args.a) c.args.bytes.now, refl, refl, omega arith, refl, omega arith)
+loop-f-init g c = (taking-none g.C.Clock.meaning c.args.sizes.files c.args.a c.args.b c.args.copies.now c.requires.ready.0.some_files, c.requires.made, refl, reported-none (judged g.C.Clock.meaning c.args.sizes.files c.args.copies.now c.args.b c.args.a) c.args.bytes.now, refl, refl, omega arith, refl, omega arith)
 
 pub loop-f-preserved : goal.loop-f-preserved
 loop-f-preserved g c =
-    let la = place_within c.args.many c.args.files c.args.a c.loop-f.f (omega arith) (omega arith) in
-    let lb = place_within c.args.many c.args.files c.args.b c.loop-f.f (omega arith) (omega arith) in
+    let la = place_within c.args.sizes.berths c.args.sizes.files c.args.a c.loop-f.f (omega arith) (omega arith) in
+    let lb = place_within c.args.sizes.berths c.args.sizes.files c.args.b c.loop-f.f (omega arith) (omega arith) in
     let v = c.take_newer-verdict.result in
-    let ev : v ≡ judged g.C.Clock.meaning c.args.files c.args.copies.now c.args.b c.args.a c.loop-f.f = taking_verdict g.C.Clock.meaning c.args.files c.args.a c.args.b c.args.copies.now c.requires.ready.0.some_files c.loop-f.f c.place-i.result c.place-j.result c.loop-f.copies v c.requires.ready.1.0 (omega arith) (omega arith) (omega arith) c.loop-f.invariant.0 c.place-i.ensures.is c.place-j.ensures.is c.take_newer-verdict.ensures.verdict in
+    let ev : v ≡ judged g.C.Clock.meaning c.args.sizes.files c.args.copies.now c.args.b c.args.a c.loop-f.f = taking_verdict g.C.Clock.meaning c.args.sizes.files c.args.a c.args.b c.args.copies.now c.requires.ready.0.some_files c.loop-f.f c.place-i.result c.place-j.result c.loop-f.copies v c.requires.ready.1.0 (omega arith) (omega arith) (omega arith) c.loop-f.invariant.0 c.place-i.ensures.is c.place-j.ensures.is c.take_newer-verdict.ensures.verdict in
     let t : c.match-verdict.taken ≡ cond (is_stale v) (c.loop-f.taken + 1) c.loop-f.taken = elim c.match-verdict.branch [
       | in-Stale w ↦ w.taken-is ∙ sym (cond-true _ _ _ (ap is_stale w.in-Stale.is))
       | in-Conflict w ↦ w.taken-is ∙ sym (cond-false _ _ _ (ap is_stale w.in-Conflict.is))
@@ -29,23 +29,23 @@ loop-f-preserved g c =
       | in-Conflict w ↦ w.conflicts-is ∙ sym (cond-true _ _ _ (ap is_conflict w.in-Conflict.is))
       | in_default w ↦ w.conflicts-is ∙ sym (cond-false _ _ _ (is_not_conflict v w.in_default.not-Conflict))
     ] in (
-      taking_more g.C.Clock.meaning c.args.files c.args.a c.args.b c.args.copies.now c.requires.ready.0.some_files c.loop-f.f c.place-i.result c.place-j.result c.loop-f.copies c.take_newer-verdict.new.copies c.requires.ready.1.0 (omega arith) (omega arith) (omega arith) c.loop-f.invariant.0 c.place-i.ensures.is c.place-j.ensures.is c.take_newer-verdict.ensures.copies,
+      taking_more g.C.Clock.meaning c.args.sizes.files c.args.a c.args.b c.args.copies.now c.requires.ready.0.some_files c.loop-f.f c.place-i.result c.place-j.result c.loop-f.copies c.take_newer-verdict.new.copies c.requires.ready.1.0 (omega arith) (omega arith) (omega arith) c.loop-f.invariant.0 c.place-i.ensures.is c.place-j.ensures.is c.take_newer-verdict.ensures.copies,
       subst (λ (l : List (Record g.row.C.Denot g.row.P.Denot)). Clocks g.C.Clock.meaning l) (sym c.take_newer-verdict.ensures.copies) (took_clocks g.C.Clock.meaning c.loop-f.copies c.place-i.result c.place-j.result c.loop-f.invariant.1),
       omega arith,
-      reported_more c.loop-f.f (judged g.C.Clock.meaning c.args.files c.args.copies.now c.args.b c.args.a) c.args.bytes.now c.loop-f.bytes c.byte.result (omega arith) c.loop-f.invariant.3 (c.byte.ensures ∙ ap byte_of ev),
-      length-set c.loop-f.bytes c.loop-f.f c.byte.result ∙ c.loop-f.invariant.4,
-      counted c.loop-f.f c.loop-f.taken c.match-verdict.taken (judged g.C.Clock.meaning c.args.files c.args.copies.now c.args.b c.args.a) is_stale v c.loop-f.invariant.5 ev t,
+      reported_more c.loop-f.f (judged g.C.Clock.meaning c.args.sizes.files c.args.copies.now c.args.b c.args.a) c.args.bytes.now c.loop-f.bytes c.into.result (omega arith) c.loop-f.invariant.3 (c.into.ensures ∙ ap byte_of ev),
+      length-set c.loop-f.bytes c.loop-f.f c.into.result ∙ c.loop-f.invariant.4,
+      counted c.loop-f.f c.loop-f.taken c.match-verdict.taken (judged g.C.Clock.meaning c.args.sizes.files c.args.copies.now c.args.b c.args.a) is_stale v c.loop-f.invariant.5 ev t,
       elim c.match-verdict.branch [ in-Stale w ↦ omega (arith, w.taken-is) | in-Conflict w ↦ omega (arith, w.taken-is) | in_default w ↦ omega (arith, w.taken-is) ],
-      counted c.loop-f.f c.loop-f.conflicts c.match-verdict.conflicts (judged g.C.Clock.meaning c.args.files c.args.copies.now c.args.b c.args.a) is_conflict v c.loop-f.invariant.7 ev u,
+      counted c.loop-f.f c.loop-f.conflicts c.match-verdict.conflicts (judged g.C.Clock.meaning c.args.sizes.files c.args.copies.now c.args.b c.args.a) is_conflict v c.loop-f.invariant.7 ev u,
       elim c.match-verdict.branch [ in-Stale w ↦ omega (arith, w.conflicts-is) | in-Conflict w ↦ omega (arith, w.conflicts-is) | in_default w ↦ omega (arith, w.conflicts-is) ],
     )
 
 pub returns : goal.returns
 returns g c =
-    let e : c.loop-f.f ≡ c.args.files = omega arith in
+    let e : c.loop-f.f ≡ c.args.sizes.files = omega arith in
     record {
-      copies = c.loop-f.invariant.0 ∙ taking_all g.C.Clock.meaning c.args.files c.args.a c.args.b c.args.copies.now c.requires.ready.0.some_files c.loop-f.f e;
-      bytes = c.loop-f.invariant.3 ∙ ap (λ n. reported n (judged g.C.Clock.meaning c.args.files c.args.copies.now c.args.b c.args.a) c.args.bytes.now) e;
-      taken = c.loop-f.invariant.5 ∙ ap (λ n. count n (λ f. is_stale ((judged g.C.Clock.meaning c.args.files c.args.copies.now c.args.b c.args.a) f))) e;
-      conflicts = c.loop-f.invariant.7 ∙ ap (λ n. count n (λ f. is_conflict ((judged g.C.Clock.meaning c.args.files c.args.copies.now c.args.b c.args.a) f))) e;
+      copies = c.loop-f.invariant.0 ∙ taking_all g.C.Clock.meaning c.args.sizes.files c.args.a c.args.b c.args.copies.now c.requires.ready.0.some_files c.loop-f.f e;
+      bytes = c.loop-f.invariant.3 ∙ ap (λ n. reported n (judged g.C.Clock.meaning c.args.sizes.files c.args.copies.now c.args.b c.args.a) c.args.bytes.now) e;
+      taken = c.loop-f.invariant.5 ∙ ap (λ n. count n (λ f. is_stale ((judged g.C.Clock.meaning c.args.sizes.files c.args.copies.now c.args.b c.args.a) f))) e;
+      conflicts = c.loop-f.invariant.7 ∙ ap (λ n. count n (λ f. is_conflict ((judged g.C.Clock.meaning c.args.sizes.files c.args.copies.now c.args.b c.args.a) f))) e;
     }

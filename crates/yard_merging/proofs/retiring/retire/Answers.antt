@@ -1,15 +1,13 @@
 use Rattle.std.proofs.Common.{◌∙◌}
-use Rattle.history.specs.Tables.{sizes}
 use Rattle.history.specs.Retire.{retire_result}
 use Rattle.history.specs.Calls.{retire}
 use Rattle.yard_checks.proofs.Clauses.{made_from, lawful_from, any}
-use Rattle.yard_cards.specs.Cards.{card_sizes}
 use Rattle.yard_merging.proofs.retiring.retire.Goals as goal
 
 pub returns : goal.returns
 returns g c =
-    let call = retire (card_sizes c.args.card.now) c.args.a c.args.b in
-    let e = c.retire_berth.ensures ∙ (λ k. retire_result g.C.Clock.meaning (sizes (c.berths.ensures k) (c.files.ensures k)) c.args.berths.now c.args.copies.now c.args.a c.args.b) in
+    let call = retire c.args.card.now c.args.a c.args.b in
+    let e = c.retire_berth.ensures ∙ (λ k. retire_result g.C.Clock.meaning (c.sizes.ensures k) c.args.berths.now c.args.copies.now c.args.a c.args.b) in
     record {
       result = e;
       made = made_from g.C.Clock.meaning g.met.C.Clock.sound any call c.args.berths.now c.args.copies.now _ e c.requires.made;

@@ -1,5 +1,4 @@
 use Rattle.std.proofs.Common.{◌∙◌}
-use Rattle.history.specs.Tables.{sizes}
 use Rattle.history.specs.Judge.{judge_result}
 use Rattle.history.specs.Calls.{judge}
 use Rattle.yard_checks.proofs.Clauses.{lawful_from}
@@ -7,7 +6,7 @@ use Rattle.yard_reading.proofs.judging.judge.Goals as goal
 
 pub returns : goal.returns
 returns g c =
-    let e = c.judge_copies.ensures ∙ (λ k. judge_result g.C.Clock.meaning (sizes (c.berths.ensures k) (c.files.ensures k)) c.args.berths.now c.args.copies.now c.args.a c.args.b c.args.f) in
+    let e = c.judge_copies.ensures ∙ (λ k. judge_result g.C.Clock.meaning (c.sizes.ensures k) c.args.berths.now c.args.copies.now c.args.a c.args.b c.args.f) in
     record {
       result = e;
       history = λ alike. lawful_from g.C.Clock.meaning g.met.C.Clock.sound alike (judge (g.K.Card.sizes c.args.card.now) c.args.a c.args.b c.args.f) c.args.berths.now c.args.copies.now _ e;

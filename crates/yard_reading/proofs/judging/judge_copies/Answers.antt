@@ -1,7 +1,6 @@
 use Rattle.std.proofs.Common.{[], get_or, Err, ap, ◌∙◌, rules}
 use Rattle.std.proofs.lemmas.Option.{slice_get-get_or}
 use Rattle.std.proofs.lemmas.Result.{err_from_is_err_and}
-use Rattle.history.specs.Tables.{sizes}
 use Rattle.history.specs.Judge.{judge_checks}
 use Rattle.yard_checks.proofs.Outcomes.{refused_first, refused}
 use Rattle.yard_reading.proofs.Judged.{judge_done}
@@ -14,10 +13,10 @@ compare-verdict-requires g c =
 pub returns-in_err-check_judge : goal.returns-in_err-check_judge
 returns-in_err-check_judge g c =
     let p = err_from_is_err_and c.from_residual.result c.from_residual.ensures.1 in
-    refused c.args.berths.now c.args.copies.now [] _ _ c.in_err-check_judge.field-0.0 c.from_residual.result (refused_first (judge_checks (sizes c.args.many c.args.files) c.args.berths.now c.args.copies.now c.args.a c.args.b c.args.f) _ c.in_err-check_judge.ensures) (p.1 ∙ ap Err p.2)
+    refused c.args.berths.now c.args.copies.now [] _ _ c.in_err-check_judge.field-0.0 c.from_residual.result (refused_first (judge_checks c.args.sizes c.args.berths.now c.args.copies.now c.args.a c.args.b c.args.f) _ c.in_err-check_judge.ensures) (p.1 ∙ ap Err p.2)
 
 pub returns : goal.returns
 returns g c =
-    judge_done g.C.Clock.meaning (sizes c.args.many c.args.files) c.args.berths.now c.args.copies.now c.args.a c.args.b c.args.f c.place-i.result c.place-j.result (get_or c.args.copies.now c.place-i.result c.index-copies-i.result) (get_or c.args.copies.now c.place-j.result c.index-copies-j.result) c.compare-verdict.result
+    judge_done g.C.Clock.meaning c.args.sizes c.args.berths.now c.args.copies.now c.args.a c.args.b c.args.f c.place-i.result c.place-j.result (get_or c.args.copies.now c.place-i.result c.index-copies-i.result) (get_or c.args.copies.now c.place-j.result c.index-copies-j.result) c.compare-verdict.result
     c.in_ok-check_judge.ensures c.place-i.ensures.is c.place-j.ensures.is
     (slice_get-get_or c.args.copies.now c.place-i.result c.index-copies-i.result (search rules)) (slice_get-get_or c.args.copies.now c.place-j.result c.index-copies-j.result (search rules)) c.compare-verdict.ensures

@@ -1,5 +1,4 @@
 use Rattle.std.proofs.Common.{◌∙◌}
-use Rattle.history.specs.Tables.{sizes}
 use Rattle.history.specs.Report.{report_result}
 use Rattle.history.specs.Calls.{report}
 use Rattle.yard_checks.proofs.Clauses.{lawful_from}
@@ -7,7 +6,7 @@ use Rattle.yard_reading.proofs.reporting.report.Goals as goal
 
 pub returns : goal.returns
 returns g c =
-    let e = c.report_copies.ensures ∙ (λ k. report_result g.C.Clock.meaning (sizes (c.berths.ensures k) (c.files.ensures k)) c.args.berths.now c.args.copies.now g.P.Payload.same c.args.a c.args.b c.args.bytes.now) in
+    let e = c.report_copies.ensures ∙ (λ k. report_result g.C.Clock.meaning (c.sizes.ensures k) c.args.berths.now c.args.copies.now g.P.Payload.same c.args.a c.args.b c.args.bytes.now) in
     record {
       result = e;
       history = lawful_from g.C.Clock.meaning g.met.C.Clock.sound g.P.Payload.same (report (g.K.Card.sizes c.args.card.now) c.args.a c.args.b c.args.bytes.now) c.args.berths.now c.args.copies.now _ e;
