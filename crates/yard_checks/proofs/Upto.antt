@@ -1,5 +1,5 @@
 -- A table whose first n entries have become what a rule says: the states of a loop that writes one entry a turn.
-use Rattle.std.proofs.Common.{◌≡◌, ℕ, suc, ◌+◌, ◌*◌, ◌/◌, ◌%◌, ◌<◌, ◌≤◌, Bool, cond, eqb, ltb, List, [], ◌∷◌, length, set, Some, sym, refl, ap, ◌∙◌, subst, ⊎_elim, add-one, arith}
+use Rattle.std.proofs.Common.{◌≡◌, ℕ, suc, ◌+◌, ◌-◌, ◌*◌, ◌/◌, ◌%◌, ◌<◌, ◌≤◌, Bool, cond, eqb, ltb, List, [], ◌∷◌, length, set, Some, sym, refl, ap, ◌∙◌, subst, ◌⊎◌, inl, inr, ⊎_elim, add-one, arith}
 use mathlib.Core.Path.{fun_ext}
 use Rattle.std.specs.List.{slice_get}
 use Rattle.std.proofs.lemmas.Nat.{div-mul-add, mod-mul-add, div-add-mod', mod_below}
@@ -73,6 +73,22 @@ module _ {C P : Type 0} (F b : ℕ) (new : ℕ → Record C P → Record C P) (s
       (omega arith, omega arith)
 
   module _ (cs : List (Record C P)) where
+    -- a table with berth b's records by the rule, and every other as it was
+    pub row_from : (ys : List (Record C P)) → ((f : ℕ) → f < F → slice_get ys (b * F + f) ≡ over (new f) (slice_get cs (b * F + f))) → ((k : ℕ) → (k < b * F) ⊎ (b * F + F ≤ k) → slice_get ys k ≡ slice_get cs k) → ys ≡ row F cs b new
+    row_from ys here there = nth_ext ys (row F cs b new) (λ k. ⊎_elim
+        (λ lt. there k (inl lt) ∙ stays k (λ p. omega arith))
+        (λ ge. ⊎_elim (λ lt. inside k ge lt) (λ past. there k (inr past) ∙ stays k (λ p. omega arith)) (cases_lt k (b * F + F)))
+        (cases_lt k (b * F)))
+      where
+        stays : (k : ℕ) → ((b * F ≤ k) × (k < b * F + F) → ⊥) → slice_get cs k ≡ slice_get (row F cs b new) k
+        stays k n = sym (nth_each (row_rule F b new) cs k ∙ ap (λ (h : Record C P → Record C P). over h (slice_get cs k)) (fun_ext (λ r. rule_there k r (λ e. n (place_of k e)))) ∙ over-same (slice_get cs k))
+
+        inside : (k : ℕ) → b * F ≤ k → k < b * F + F → slice_get ys k ≡ slice_get (row F cs b new) k
+        inside k ge lt =
+            let e : b * F + (k - b * F) ≡ k = omega arith in
+            subst (λ i. slice_get ys i ≡ slice_get (row F cs b new) i) e
+            (here (k - b * F) (omega arith) ∙ sym (nth_each (row_rule F b new) cs (b * F + (k - b * F)) ∙ ap (λ (h : Record C P → Record C P). over h (slice_get cs (b * F + (k - b * F)))) (fun_ext (λ r. rule_here (k - b * F) r (omega arith)))))
+
     pub row_begun : upto (b * F) (row_rule F b new) cs ≡ cs
     row_begun = nth_ext (upto (b * F) (row_rule F b new) cs) cs (λ k. ⊎_elim
         (λ lt. nth_done (row_rule F b new) cs (b * F) k lt ∙ ap (λ (h : Record C P → Record C P). over h (slice_get cs k)) (fun_ext (λ r. rule_there k r (λ e. let p = place_of k e in omega arith))) ∙ over-same (slice_get cs k))

@@ -6,6 +6,7 @@ ghost use Rattle.yard_checks.specs.Passing.{passing};
 
 use clock::{Cause, Fault};
 use history::{Berth, Sizes, State};
+use std::ops::Range;
 
 // Refuses where the refusal is due.
 fn refuse_if(is_due: bool, fault: Fault) -> Result<(), Fault>
@@ -79,6 +80,17 @@ pub fn check_buffer(sizes: Sizes, bytes: &[u8]) -> Result<(), Fault>
     ensures { result ≡ passing (short_buffer sizes bytes.now) }
 {
     refuse_if(bytes.len() < sizes.files, Cause::ShortBuffer.into())
+}
+
+/// Where the records of berth a stand, one for each file.
+pub fn row(sizes: Sizes, a: usize) -> Range<usize>
+    requires { (a < sizes.berths) × ((sizes.berths ≤ 16) × (sizes.files ≤ 32)) }
+    ensures start { result.start ≡ a * sizes.files }
+    ensures end { result.end ≡ a * sizes.files + sizes.files }
+    ensures within { result.end ≤ sizes.berths * sizes.files }
+{
+    let start = a * sizes.files;
+    start..start + sizes.files
 }
 
 /// The record of berth a and file f.

@@ -16,6 +16,6 @@ mod places;
 
 pub use checks::{
     check_berth, check_buffer, check_empty, check_file, check_sizes, check_two, check_working,
-    place,
+    place, row,
 };
 pub use places::Place;

@@ -1,6 +1,8 @@
--- What fork's code shows of its result, and the loop that copies a row.
-use Rattle.std.proofs.Common.{◌≡◌, ℕ, ◌+◌, ◌*◌, ◌<◌, List, [], length, set, Some, None, Ok, Err, Option, Result, sym, ap, ◌∙◌, add-zero, arith}
-use Rattle.std.specs.List.{slice_get}
+-- What fork's code shows of its result, and the copying of a row.
+use Rattle.std.proofs.Common.{◌≡◌, ℕ, ◌+◌, ◌-◌, ◌*◌, ◌<◌, ◌≤◌, ◌⊎◌, inl, inr, ⊎_elim, List, [], length, get_or, set, Some, None, Ok, Err, Option, Result, sym, ap, ◌∙◌, arith}
+use Rattle.std.specs.List.{slice_get, CopiedTo, SameBelow, SameFrom}
+use Rattle.std.proofs.lemmas.Option.{slice_get-get_or, slice_get_past}
+use Rattle.std.proofs.lemmas.Bool.{cases_lt}
 use Rattle.clock.specs.declared.faults.Fault.{Fault}
 use Rattle.clock.specs.Answers.{answered}
 use Rattle.clock.specs.Meaning.{Meaning}
@@ -9,31 +11,31 @@ use Rattle.history.specs.declared.tables.Record.{Record}
 use Rattle.history.specs.Tables.{Card, or_else, pen_in, pen_at, working_berth, row, copy_from}
 use Rattle.history.specs.Checks.{left}
 use Rattle.history.specs.Fork.{fork_plain, forked, fork_result}
-use Rattle.history.proofs.Lookups.{entry}
+use Rattle.history.proofs.Lookups.{entry, over}
 use Rattle.yard_checks.specs.Passing.{all_pass, at_place}
 use Rattle.yard_checks.proofs.Outcomes.{refused_first, append_some, then_one, due_when, none-due_when, refused, accepted}
-use Rattle.yard_checks.proofs.Upto.{upto, row_rule, upto_set, rule_here, row_away, row_begun, row_ended}
+use Rattle.yard_checks.proofs.Upto.{row_from}
 
--- the table after the first n files of berth b were copied
-abbrev pub copying : {C P : Type 0} → ℕ → ℕ → ℕ → List (Record C P) → ℕ → List (Record C P)
-copying F a b cs n = upto (b * F + n) (row_rule F b (copy_from F cs a)) cs
+-- a's row, which begins at i and ends at end, copied over b's, which begins at j
+pub copied : {C P : Type 0} (F a b i end j : ℕ) (cs new : List (Record C P)) → 0 < F → length new ≡ length cs → i ≡ a * F → end ≡ a * F + F → j ≡ b * F → end ≤ length cs → j + F ≤ length cs → CopiedTo cs new i j (end - i) → SameBelow cs new j → SameFrom cs new (j + (end - i)) → new ≡ row F cs b (copy_from F cs a)
+copied F a b i end j cs new some e ei ee ej la lb to below from = row_from F b (copy_from F cs a) some cs new here there
+  where
+    here : (f : ℕ) → f < F → slice_get new (b * F + f) ≡ over (copy_from F cs a f) (slice_get cs (b * F + f))
+    here f lf =
+        let x = entry cs (b * F + f) (omega arith) in
+        let p : get_or new (b * F + f) x.0 ≡ get_or cs (a * F + f) x.0 = to (b * F + f) x.0 (omega arith) (omega arith) ∙ ap (λ k. get_or cs k x.0) (omega arith) in
+        slice_get-get_or new (b * F + f) x.0 (omega arith) ∙ ap Some p
+        ∙ sym (ap (over (copy_from F cs a f)) x.1 ∙ ap (λ (o : Option _). Some (or_else o x.0)) (slice_get-get_or cs (a * F + f) x.0 (omega arith)))
 
-module _ {C P : Type 0} (F a b : ℕ) (cs : List (Record C P)) (some : 0 < F) where
-  pub copying-none : cs ≡ copying F a b cs 0
-  copying-none = sym (ap (λ k. upto k (row_rule F b (copy_from F cs a)) cs) (add-zero (b * F)) ∙ row_begun F b (copy_from F cs a) some cs)
+    kept : (k : ℕ) → ((x : Record _ _) → get_or new k x ≡ get_or cs k x) → slice_get new k ≡ slice_get cs k
+    kept k h = ⊎_elim
+        (λ lt. let x = entry cs k lt in slice_get-get_or new k x.0 (omega arith) ∙ ap Some (h x.0) ∙ sym (slice_get-get_or cs k x.0 lt))
+        (λ ge. slice_get_past new k (omega arith) ∙ sym (slice_get_past cs k ge))
+        (cases_lt k (length cs))
 
-  pub copying_all : (n : ℕ) → n ≡ F → copying F a b cs n ≡ row F cs b (copy_from F cs a)
-  copying_all n e = ap (λ k. upto (b * F + k) (row_rule F b (copy_from F cs a)) cs) e ∙ row_ended F b (copy_from F cs a) some cs
-
-  -- record r, read at j, is written at i
-  pub copying_more : (n i j : ℕ) (now : List (Record C P)) (r : Record C P) → (a ≡ b → ⊥) → n < F → b * F + n < length cs → now ≡ copying F a b cs n → i ≡ b * F + n → j ≡ a * F + n → slice_get now j ≡ Some r → set now i r ≡ copying F a b cs (n + 1)
-  copying_more n i j now r ne lt lb e ei ej er =
-      let x = entry cs (b * F + n) lb in
-      let rule = rule_here F b (copy_from F cs a) some n x.0 lt in
-      let er' : slice_get (copying F a b cs n) (a * F + n) ≡ Some r = (λ k. slice_get (sym e k) (sym ej k)) ∙ er in
-      let read : slice_get cs (a * F + n) ≡ Some r = sym (row_away F b (copy_from F cs a) some cs (b * F + n) a n lt ne) ∙ er' in
-      let next : upto (b * F + n + 1) (row_rule F b (copy_from F cs a)) cs ≡ copying F a b cs (n + 1) = ap (λ k. upto k (row_rule F b (copy_from F cs a)) cs) (omega arith) in
-      (λ k. set (e k) (ei k) r) ∙ upto_set (row_rule F b (copy_from F cs a)) cs (b * F + n) x.0 r x.1 (sym (rule ∙ ap (λ (o : Option (Record C P)). or_else o x.0) read)) ∙ next
+    there : (k : ℕ) → (k < b * F) ⊎ (b * F + F ≤ k) → slice_get new k ≡ slice_get cs k
+    there k (inl lt) = kept k (λ x. below k x (omega arith))
+    there k (inr ge) = kept k (λ x. from k x (omega arith))
 
 module _ {Pen C P : Type 0} (m : Meaning Pen C) (card : Card) (bs : List (Berth Pen)) (cs : List (Record C P)) (a b : ℕ) where
   pub fork_checked : (e : Fault) (q : Result (Unit {0}) Fault) → Err e ≡ all_pass (fork_plain card bs cs a b) → q ≡ Err e → left q bs cs [] ≡ fork_result m card bs cs a b

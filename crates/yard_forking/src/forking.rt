@@ -10,7 +10,7 @@ ghost use Rattle.yard_checks.specs.Ready.{Ready};
 use clock::{Clock, Fault};
 use history::{Berth, Record, Sizes, State};
 use yard_cards::{Card, OpenCard};
-use yard_checks::{Place, check_berth, check_empty, check_sizes, check_two, check_working, place};
+use yard_checks::{Place, check_berth, check_empty, check_sizes, check_two, check_working, row};
 
 fn check_fork<Q, C, P>(
     sizes: Sizes,
@@ -34,12 +34,7 @@ fn copy_files<C: Copy, P: Copy>(sizes: Sizes, copies: &mut [Record<C, P>], a: us
     requires { (Ready sizes sizes.berths (length copies.old) a b) × ((a ≢ b)) }
     ensures { copies.new ≡ row sizes.files copies.old b (copy_from sizes.files copies.old a) }
 {
-    for f in 0..sizes.files {
-        let i = place(sizes, b, f);
-        let j = place(sizes, a, f);
-        let theirs = copies[j];
-        copies[i] = theirs;
-    }
+    copies.copy_within(row(sizes, a), row(sizes, b).start);
 }
 
 // The fork, under a card of these sizes.
