@@ -3,3 +3,4 @@ pub mod Checked
 pub mod Clauses
 pub mod Upto
 pub mod Verdicts
+pub mod Rows

@@ -14,7 +14,7 @@ use crate::taking::take_files;
 use clock::{Cause, Clock, Fault, Verdict};
 use history::{Berth, Record, Sizes, State};
 use yard_cards::{Card, OpenCard};
-use yard_checks::{Place, check_berth, check_sizes, check_two, check_working, place};
+use yard_checks::{Place, check_berth, check_sizes, check_two, check_working, row};
 
 fn check_two_working<Q, C, P>(
     sizes: Sizes,
@@ -44,16 +44,10 @@ fn check_calm<C: Clock, P: Copy>(
     requires made { Clocks C.Clock.meaning copies.now }
     ensures { result ≡ passing (some_conflict C.Clock.meaning sizes.files copies.now a b) }
 {
-    for f in 0..sizes.files {
-        let i = place(sizes, b, f);
-        let j = place(sizes, a, f);
-        let verdict = copies[i].clock.compare(&copies[j].clock);
-        if let Verdict::Conflict = verdict {
-            return Err(Fault {
-                cause: Cause::InConflict,
-                berth: Some(b),
-                file: Some(f),
-            });
+    let pairs = copies[row(sizes, b)].iter().zip(&copies[row(sizes, a)]);
+    for (f, (ours, theirs)) in pairs.enumerate() {
+        if ours.clock.compare(&theirs.clock) == Verdict::Conflict {
+            return Err(Fault::from(Cause::InConflict).at_berth(b).at_file(f));
         }
     }
     Ok(())
