@@ -1,5 +1,5 @@
 -- The entries of a row that a loop over it has left.
-use Rattle.std.proofs.Common.{◌≡◌, ℕ, suc, ◌+◌, ◌*◌, ◌<◌, ◌≤◌, List, [], ◌∷◌, length, get_or, drop, take, Some, sym, refl, ap, ◌∙◌, ⊎_elim, add-one, arith}
+use Rattle.std.proofs.Common.{◌≡◌, ℕ, suc, ◌+◌, ◌-◌, ◌*◌, ◌<◌, ◌≤◌, List, ◌∷◌, length, get_or, drop, take, Some, sym, refl, ap, ◌∙◌, ⊎_elim, add-one, arith}
 use Rattle.std.specs.List.{slice_get}
 use Rattle.std.proofs.Math.Seq.{drop-cons}
 use Rattle.std.proofs.lemmas.List.{get_or-drop, get_or-take, length-take, length-drop, drop_all}
@@ -58,3 +58,9 @@ pair_of m F a b n cs xs ys xs' ys' x y ex ey nx ny =
       first_left = p.2;
       second_left = q.2;
     }
+
+-- a row, as the code cuts it out of the table
+pub all_left : {A : Type 0} (F start i end n : ℕ) (cs rest : List A) → i ≡ start → end ≡ start + F → n ≡ 0 → rest ≡ take (end - i) (drop i cs) → rest ≡ left_of F start n cs
+all_left F start i end n cs rest ei ee en is =
+    let len : end - i ≡ F = omega arith in
+    is ∙ (λ k. take (len k) (drop (ei k) cs)) ∙ ap (λ k. drop k (take F (drop start cs))) (sym en)

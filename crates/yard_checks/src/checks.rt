@@ -8,8 +8,8 @@ use clock::{Cause, Fault};
 use history::{Berth, Sizes, State};
 use std::ops::Range;
 
-// Refuses where the refusal is due.
-fn refuse_if(is_due: bool, fault: Fault) -> Result<(), Fault>
+/// Refuses where the refusal is due.
+pub fn refuse_if(is_due: bool, fault: Fault) -> Result<(), Fault>
     ensures { result ≡ passing (due is_due fault) }
 {
     if is_due { Err(fault) } else { Ok(()) }

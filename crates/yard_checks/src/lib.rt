@@ -12,10 +12,12 @@
 #![tactic(auto)]
 
 mod checks;
+mod counting;
 mod places;
 
 pub use checks::{
     check_berth, check_buffer, check_empty, check_file, check_sizes, check_two, check_working,
-    place, row,
+    place, refuse_if, row,
 };
+pub use counting::count_verdict;
 pub use places::Place;

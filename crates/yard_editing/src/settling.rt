@@ -13,7 +13,9 @@ ghost use Rattle.yard_editing.specs.Settling.{settle_late};
 use clock::{Cause, Clock, Fault, Verdict};
 use history::{Berth, Record, Sizes};
 use yard_cards::{Card, OpenCard};
-use yard_checks::{Place, check_berth, check_file, check_sizes, check_two, check_working, place};
+use yard_checks::{
+    Place, check_berth, check_file, check_sizes, check_two, check_working, place, refuse_if,
+};
 
 fn check_settle<Q, C, P>(
     sizes: Sizes,
@@ -38,14 +40,8 @@ fn check_settle<Q, C, P>(
 fn check_conflict(verdict: Verdict, b: usize, f: usize) -> Result<(), Fault>
     ensures { result ≡ passing (due (not (is_conflict verdict)) (fault NoConflict (Some b) (Some f))) }
 {
-    match verdict {
-        Verdict::Conflict => Ok(()),
-        Verdict::Equal | Verdict::Stale | Verdict::Ahead => Err(Fault {
-            cause: Cause::NoConflict,
-            berth: Some(b),
-            file: Some(f),
-        }),
-    }
+    let fault = Fault::from(Cause::NoConflict).at_berth(b).at_file(f);
+    refuse_if(verdict != Verdict::Conflict, fault)
 }
 
 // The join of the two clocks and an event on it, into b's copy.

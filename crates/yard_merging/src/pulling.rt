@@ -12,7 +12,9 @@ use crate::taking::take_newer;
 use clock::{Clock, Fault, Verdict};
 use history::{Berth, Record, Sizes};
 use yard_cards::{Card, OpenCard};
-use yard_checks::{check_berth, check_buffer, check_sizes, check_two, check_working, place};
+use yard_checks::{
+    check_berth, check_buffer, check_sizes, check_two, check_working, count_verdict, row,
+};
 
 fn check_pull<Q, C, P>(
     sizes: Sizes,
@@ -47,19 +49,12 @@ fn pull_files<C: Clock, P: Copy>(
     ensures taken { result.0 ≡ count sizes.files (λ f. is_stale (judged C.Clock.meaning sizes.files copies.old b a f)) }
     ensures conflicts { result.1 ≡ count sizes.files (λ f. is_conflict (judged C.Clock.meaning sizes.files copies.old b a f)) }
 {
-    let mut taken = 0;
-    let mut conflicts = 0;
-    for f in 0..sizes.files {
-        let i = place(sizes, b, f);
-        let j = place(sizes, a, f);
-        let verdict = take_newer(copies, i, j);
-        bytes[f] = verdict.into();
-        match verdict {
-            Verdict::Stale => taken += 1,
-            Verdict::Conflict => conflicts += 1,
-            _ => {}
-        }
+    for (f, (i, j)) in row(sizes, b).zip(row(sizes, a)).enumerate() {
+        bytes[f] = take_newer(copies, i, j).into();
     }
+    let told = &bytes[..sizes.files];
+    let taken = count_verdict(told, Verdict::Stale);
+    let conflicts = count_verdict(told, Verdict::Conflict);
     (taken, conflicts)
 }
 

@@ -6,7 +6,7 @@ ghost use Rattle.yard_merging.specs.Taking.{verdict_on, took};
 
 use clock::{Clock, Verdict};
 use history::{Record, Sizes};
-use yard_checks::place;
+use yard_checks::row;
 
 // Record i becomes record j where it is stale against it. The verdict beforehand.
 pub(crate) fn take_newer<C: Clock, P: Copy>(
@@ -39,9 +39,7 @@ pub(crate) fn take_files<C: Clock, P: Copy>(
     requires made { Clocks C.Clock.meaning copies.old }
     ensures { copies.new ≡ row sizes.files copies.old b (newer_from sizes.files copies.old C.Clock.meaning a b) }
 {
-    for f in 0..sizes.files {
-        let i = place(sizes, b, f);
-        let j = place(sizes, a, f);
+    for (i, j) in row(sizes, b).zip(row(sizes, a)) {
         take_newer(copies, i, j);
     }
 }

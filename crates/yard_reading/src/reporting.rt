@@ -12,7 +12,7 @@ use clock::{Clock, Fault, Verdict};
 use history::{Berth, Record, Sizes};
 use payload::Payload;
 use yard_cards::Card;
-use yard_checks::{check_berth, check_buffer, check_sizes, check_working, place};
+use yard_checks::{check_berth, check_buffer, check_sizes, check_working, count_verdict, row};
 
 fn check_report<Q, C, P>(
     sizes: Sizes,
@@ -44,28 +44,20 @@ fn report_files<C: Clock, P: Payload>(
     ensures bytes { bytes.new ≡ reported sizes.files (judged C.Clock.meaning sizes.files copies.now a b) bytes.old }
     ensures counts { result ≡ counts sizes.files (judged C.Clock.meaning sizes.files copies.now a b) (twins_of sizes.files copies.now P.Payload.same a b) }
 {
-    let mut equal = 0;
-    let mut stale = 0;
-    let mut ahead = 0;
-    let mut conflicts = 0;
     let mut twins = 0;
-    for f in 0..sizes.files {
-        let i = place(sizes, a, f);
-        let j = place(sizes, b, f);
-        let verdict = copies[i].clock.compare(&copies[j].clock);
+    let pairs = copies[row(sizes, a)].iter().zip(&copies[row(sizes, b)]);
+    for (f, (mine, theirs)) in pairs.enumerate() {
+        let verdict = mine.clock.compare(&theirs.clock);
         bytes[f] = verdict.into();
-        match verdict {
-            Verdict::Equal => equal += 1,
-            Verdict::Stale => stale += 1,
-            Verdict::Ahead => ahead += 1,
-            Verdict::Conflict => {
-                conflicts += 1;
-                if copies[i].payload.alike(&copies[j].payload) {
-                    twins += 1;
-                }
-            }
+        if verdict == Verdict::Conflict && mine.payload.alike(&theirs.payload) {
+            twins += 1;
         }
     }
+    let told = &bytes[..sizes.files];
+    let equal = count_verdict(told, Verdict::Equal);
+    let stale = count_verdict(told, Verdict::Stale);
+    let ahead = count_verdict(told, Verdict::Ahead);
+    let conflicts = count_verdict(told, Verdict::Conflict);
     (equal, stale, ahead, conflicts, twins)
 }
 

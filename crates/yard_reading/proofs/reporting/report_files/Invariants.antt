@@ -1,13 +1,18 @@
-use Rattle.std.proofs.Common.{◌≡◌, ◌≤◌, ◌&&◌, length}
-use Rattle.history.specs.Tables.{judged, reported, count, is_equal, is_stale, is_ahead, is_conflict}
+use Rattle.std.proofs.Common.{◌≡◌, ◌*◌, ◌≤◌, ◌&&◌, length}
+use Rattle.history.specs.Tables.{judged, reported, count, is_conflict}
 use Rattle.history.specs.Report.{twins}
+use Rattle.yard_checks.proofs.Rows.{left_of}
 use Rattle.yard_reading.proofs.reporting.report_files.Given as goal
 
 abbrev pub invariant-loop-f : goal.invariant-loop-f
 invariant-loop-f g l =
-    (l.bytes ≡ reported l.f (judged g.C.Clock.meaning l.sizes.files l.copies l.a l.b) l.initial.bytes) × (length l.bytes ≡ length l.initial.bytes)
-    × (l.equal ≡ count l.f (λ f. is_equal (judged g.C.Clock.meaning l.sizes.files l.copies l.a l.b f))) × (l.equal ≤ l.f)
-    × (l.stale ≡ count l.f (λ f. is_stale (judged g.C.Clock.meaning l.sizes.files l.copies l.a l.b f))) × (l.stale ≤ l.f)
-    × (l.ahead ≡ count l.f (λ f. is_ahead (judged g.C.Clock.meaning l.sizes.files l.copies l.a l.b f))) × (l.ahead ≤ l.f)
-    × (l.conflicts ≡ count l.f (λ f. is_conflict (judged g.C.Clock.meaning l.sizes.files l.copies l.a l.b f))) × (l.conflicts ≤ l.f)
-    × (l.twins ≡ count l.f (λ f. is_conflict (judged g.C.Clock.meaning l.sizes.files l.copies l.a l.b f) && twins l.sizes.files l.copies g.P.Payload.same l.a l.b f)) × (l.twins ≤ l.f)
+    let F = l.fn.sizes.files in
+    let n = l.f-iterator.count in
+    let v = judged g.C.Clock.meaning F l.fn.copies l.fn.a l.fn.b in
+    (goal.iterator-loop-f g).can_next l.f-iterator
+    × (goal.iterator-loop-f g).is_finite l.f-iterator
+    × (l.f-iterator.iter.a.rest.now ≡ left_of F (l.fn.a * F) n l.fn.copies)
+    × (l.f-iterator.iter.b.rest.now ≡ left_of F (l.fn.b * F) n l.fn.copies)
+    × (n ≤ F)
+    × (l.bytes ≡ reported n v l.initial.bytes) × (length l.bytes ≡ length l.initial.bytes)
+    × (l.twins ≡ count n (λ f. is_conflict (v f) && twins F l.fn.copies g.P.Payload.same l.fn.a l.fn.b f)) × (l.twins ≤ n)

@@ -1,0 +1,12 @@
+ghost use Rattle.std.specs.Prelude.{◌≡◌, ◌==◌, count_by};
+ghost use Rattle.clock.specs.Verdicts.{byte_of};
+
+use clock::Verdict;
+
+/// How many of a report's bytes tell this verdict.
+pub fn count_verdict(bytes: &[u8], verdict: Verdict) -> usize
+    ensures { result ≡ count_by (λ byte. byte == byte_of verdict) bytes.now }
+{
+    let told = u8::from(verdict);
+    bytes.iter().filter(|byte| **byte == told).count()
+}
