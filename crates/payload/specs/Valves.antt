@@ -8,8 +8,8 @@
 -- same_valve v w              the case and the number are the same
 use Rattle.std.specs.Prelude.{ℕ, Bool, cond, ◌&&◌, List, take, drop, Ok, Err, codes, Result, ◌==◌, nat_le}
 use Rattle.std.specs.Str.{bytes_eq}
-use Rattle.payload.specs.declared.decimals.Fault.{Fault}
-use Rattle.payload.specs.declared.decimals.Fault.TheVariants.{NotNumber as NoNumber, OutOfRange}
+use Rattle.payload.specs.declared.decimals.DecimalError.{DecimalError}
+use Rattle.payload.specs.declared.decimals.DecimalError.TheVariants.{NotNumber as NoNumber, OutOfRange}
 use Rattle.payload.specs.Decimals.{decimal_of}
 use Rattle.payload.specs.declared.valves.Case.{Case}
 use Rattle.payload.specs.declared.valves.Case.TheVariants.{Shut, Open, Part, Flow}
@@ -29,7 +29,7 @@ part_valve n = cond (nat_le 1 n && nat_le n 99) (Ok (record { case = Part; numbe
 abbrev pub flow_valve : ℕ → Result Valve ValveError
 flow_valve n = cond (nat_le n 9999) (Ok (record { case = Flow; number = n })) (Err FlowRange)
 
-abbrev pub part_read : Result ℕ Fault → Result Valve ValveError
+abbrev pub part_read : Result ℕ DecimalError → Result Valve ValveError
 part_read (Ok n) = part_valve n
 part_read (Err NoNumber) = Err NotNumber
 part_read (Err OutOfRange) = Err PartRange
@@ -37,7 +37,7 @@ part_read (Err OutOfRange) = Err PartRange
 abbrev pub part_word : List ℕ → Result Valve ValveError
 part_word w = part_read (decimal_of w)
 
-abbrev pub flow_read : Result ℕ Fault → Result Valve ValveError
+abbrev pub flow_read : Result ℕ DecimalError → Result Valve ValveError
 flow_read (Ok n) = flow_valve n
 flow_read (Err NoNumber) = Err NotNumber
 flow_read (Err OutOfRange) = Err FlowRange

@@ -3,7 +3,7 @@ ghost use Rattle.std.proofs.Common.{sym, ◌∙◌};
 ghost use Rattle.payload.specs.Tickets.{ticket_of, hex_digit, same_ticket};
 ghost use Rattle.payload.specs.Alike.{decides_ticket};
 
-use crate::decimals::{Fault, decimal};
+use crate::decimals::{DecimalError, decimal};
 use crate::kinds::Payload;
 use std::fmt;
 
@@ -58,8 +58,8 @@ impl Ticket {
         let digest = read_digest(digest.as_bytes())?;
         match decimal(length) {
             Ok(length) => Ok(Ticket::new(digest, length)),
-            Err(Fault::NotNumber) => Err(TicketError::NotNumber),
-            Err(Fault::OutOfRange) => Err(TicketError::OutOfRange),
+            Err(DecimalError::NotNumber) => Err(TicketError::NotNumber),
+            Err(DecimalError::OutOfRange) => Err(TicketError::OutOfRange),
         }
     }
 }

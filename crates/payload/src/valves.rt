@@ -2,7 +2,7 @@ ghost use Rattle.std.specs.Prelude.{◌≡◌};
 ghost use Rattle.payload.specs.Valves.{shut_valve, open_valve, part_valve, flow_valve, valve_word, part_word, flow_word, same_valve};
 ghost use Rattle.std.proofs.Common.{rules};
 
-use crate::decimals::{Fault, decimal};
+use crate::decimals::{DecimalError, decimal};
 use crate::kinds::Payload;
 use std::fmt;
 
@@ -126,8 +126,8 @@ fn read_part(number: &str) -> Result<Valve, ValveError>
 {
     match decimal(number) {
         Ok(percent) => Valve::part(percent),
-        Err(Fault::NotNumber) => Err(ValveError::NotNumber),
-        Err(Fault::OutOfRange) => Err(ValveError::PartRange),
+        Err(DecimalError::NotNumber) => Err(ValveError::NotNumber),
+        Err(DecimalError::OutOfRange) => Err(ValveError::PartRange),
     }
 }
 
@@ -136,8 +136,8 @@ fn read_flow(number: &str) -> Result<Valve, ValveError>
 {
     match decimal(number) {
         Ok(litres) => Valve::flow(litres),
-        Err(Fault::NotNumber) => Err(ValveError::NotNumber),
-        Err(Fault::OutOfRange) => Err(ValveError::FlowRange),
+        Err(DecimalError::NotNumber) => Err(ValveError::NotNumber),
+        Err(DecimalError::OutOfRange) => Err(ValveError::FlowRange),
     }
 }
 
