@@ -73,9 +73,7 @@ impl FromStr for Ticket {
     ghost from_str_gives = { λ word answer. answer ≡ ticket_word word };
 
     fn from_str(word: &str) -> Result<Ticket, TicketError> {
-        let Some((digest, length)) = word.split_once(':') else {
-            return Err(TicketError::NoColon);
-        };
+        let (digest, length) = word.split_once(':').ok_or(TicketError::NoColon)?;
         Ok(Ticket::new(read_digest(digest)?, decimal(length)?))
     }
 }
