@@ -1,30 +1,24 @@
--- What `all` and `parse` answer at a decimal text.
-use Rattle.std.proofs.Common.{◌≡◌, ℕ, ◌^◌, ◌<◌, Bool, true, false, cond, not, ◌&&◌, eqb, ltb, List, [], ◌∷◌, length, Ok, Err, Result, refl, sym, ap, ◌∙◌, ⊎_elim, arith}
+-- What `parse` answers at a decimal text.
+use Rattle.std.proofs.Common.{◌≡◌, ℕ, ◌^◌, ◌<◌, Bool, true, false, cond, not, ◌&&◌, eqb, ltb, List, length, Ok, Err, Result, rules, sym, ap, ◌∙◌, ⊎_elim, arith}
 use Rattle.std.specs.List.{list_all}
 use Rattle.std.specs.Result.{MatchResult, IsErrAnd}
 use Rattle.std.specs.Str.Parse.{digits_value, ParsesUnsigned}
 use Rattle.std.specs.Char.{is_ascii_digit}
-use Rattle.std.specs.Str.{all_ascii_digits}
-use Rattle.std.proofs.lemmas.Str.Parse.{IsNumeralModel, numerals_by_value, tells_all_ascii_digits, parse_digits}
+use Rattle.std.proofs.lemmas.Str.Parse.{IsNumeralModel, numerals_by_value, parse_digits}
 use Rattle.std.proofs.lemmas.Bool.{and_parts, not-true, eqb-false, le-ltb, lt-ltb, cases_lt, cond-true}
 use Rattle.payload.specs.declared.decimals.DecimalError.{DecimalError}
 use Rattle.payload.specs.declared.decimals.DecimalError.TheVariants.{OutOfRange}
 use Rattle.payload.specs.Decimals.{leading_zero, plain, decimal_of}
 
--- `all` of a text's characters
-pub digits_all : (xs : List ℕ) → list_all is_ascii_digit xs ≡ all_ascii_digits xs
-digits_all [] = refl
-digits_all (x ∷ xs) = ap (λ b. is_ascii_digit x && b) (digits_all xs)
-
-own : IsNumeralModel (λ ds. all_ascii_digits ds ≡ true) (digits_value 10)
-own = numerals_by_value (λ ds. all_ascii_digits ds ≡ true) tells_all_ascii_digits
+own : IsNumeralModel (λ ds. list_all is_ascii_digit ds ≡ true) (digits_value 10)
+own = numerals_by_value (λ ds. list_all is_ascii_digit ds ≡ true) (search rules)
 
 module _ (ds : List ℕ) (p : plain ds ≡ true) where
   some_digits : 0 < length ds
-  some_digits = omega (arith, eqb-false (length ds) 0 (not-true _ (and_parts (not (eqb (length ds) 0)) (not (leading_zero ds) && all_ascii_digits ds) p).0))
+  some_digits = omega (arith, eqb-false (length ds) 0 (not-true _ (and_parts (not (eqb (length ds) 0)) (not (leading_zero ds) && list_all is_ascii_digit ds) p).0))
 
-  digits : all_ascii_digits ds ≡ true
-  digits = (and_parts (not (leading_zero ds)) (all_ascii_digits ds) (and_parts (not (eqb (length ds) 0)) (not (leading_zero ds) && all_ascii_digits ds) p).1).1
+  digits : list_all is_ascii_digit ds ≡ true
+  digits = (and_parts (not (leading_zero ds)) (list_all is_ascii_digit ds) (and_parts (not (eqb (length ds) 0)) (not (leading_zero ds) && list_all is_ascii_digit ds) p).1).1
 
   -- what the number of the digits answers, by whether it fits
   at : (b : Bool) → ltb (digits_value 10 ds) (2 ^ 64) ≡ b → decimal_of ds ≡ cond b (Ok (digits_value 10 ds)) (Err OutOfRange)

@@ -1,5 +1,6 @@
 ghost use Rattle.std.specs.Prelude.{◌≡◌};
-ghost use Rattle.std.specs.Str.{all_ascii_digits};
+ghost use Rattle.std.specs.Char.{is_ascii_digit};
+ghost use Rattle.std.specs.List.{list_all};
 ghost use Rattle.payload.specs.Decimals.{plain, decimal_of};
 
 use thiserror::Error;
@@ -29,14 +30,14 @@ pub fn decimal(text: &str) -> Result<u64, DecimalError>
 fn is_plain(text: &[u8]) -> bool
     ensures { result ≡ plain text.now }
 {
-    if text.is_empty() || text.len() > 1 && text[0] == b'0' {
-        return false;
+    match text {
+        [] | [b'0', _, ..] => false,
+        _ => all_digits(text),
     }
-    all_digits(text)
 }
 
 fn all_digits(text: &[u8]) -> bool
-    ensures { result ≡ all_ascii_digits text.now }
+    ensures { result ≡ list_all is_ascii_digit text.now }
 {
     text.iter().all(u8::is_ascii_digit)
 }
