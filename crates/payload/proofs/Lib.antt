@@ -1,2 +1,1 @@
 mod Reading
-mod Digests

@@ -3,7 +3,7 @@
 -- ticket_of d n     the ticket with digest d and length n
 -- ticket_word w     the ticket that a word of a log stands for, or the refusal
 -- digest_of ds      the digest that 64 lowercase hexadecimal digits stand for, or the refusal
--- length_refusal e  what the error of a length makes of the ticket
+-- length_refusal e  why a ticket is refused whose length is refused by e
 -- same_below k a b  the first k bytes of two digests are the same
 -- same_ticket t u   all 32 bytes and the length are the same
 use Rattle.std.specs.Prelude.{ℕ, zero, suc, Bool, true, cond, ◌&&◌, List, length, Ok, Err, Result, ◌==◌, nat_lt, slice_index}

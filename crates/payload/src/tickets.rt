@@ -1,5 +1,7 @@
 ghost use Rattle.std.specs.Prelude.{◌≡◌, refl};
 ghost use Rattle.std.proofs.Common.{sym, ◌∙◌};
+ghost use Rattle.std.specs.Char.{is_ascii_uppercase};
+ghost use Rattle.std.specs.List.{list_any};
 ghost use Rattle.payload.specs.Tickets.{ticket_of, ticket_word, digest_of, length_refusal, same_ticket};
 ghost use Rattle.payload.specs.Alike.{decides_ticket};
 
@@ -30,7 +32,7 @@ pub enum TicketError {
     OutOfRange = 4,
 }
 
-/// What an error of the length makes of the ticket.
+/// Why a ticket is refused whose length is no number.
 impl From<DecimalError> for TicketError {
     ghost from_gives = { λ error refusal. refusal ≡ length_refusal error };
 
@@ -82,10 +84,16 @@ impl FromStr for Ticket {
 fn read_digest(text: &str) -> Result<[u8; 32], TicketError>
     ensures { result ≡ digest_of text.now }
 {
-    if text.as_bytes().iter().any(u8::is_ascii_uppercase) {
+    if has_uppercase(text.as_bytes()) {
         return Err(TicketError::NotDigest);
     }
     <[u8; 32]>::from_hex(text).map_err(|_| TicketError::NotDigest)
+}
+
+fn has_uppercase(text: &[u8]) -> bool
+    ensures { result ≡ list_any is_ascii_uppercase text.now }
+{
+    text.iter().any(u8::is_ascii_uppercase)
 }
 
 /// Alike exactly when all bytes of the digest and the length are the same.
@@ -116,10 +124,9 @@ impl Payload for Ticket {
 /// 64 lowercase hexadecimal digits, `:`, the length in decimal
 impl fmt::Display for Ticket {
     fn fmt<W: fmt::Write>(&self, f: &mut fmt::Formatter<W>) -> fmt::Result {
-        for byte in self.digest.iter() {
+        for byte in &self.digest {
             write!(f, "{byte:02x}")?;
         }
-        let length = self.length;
-        write!(f, ":{length}")
+        write!(f, ":{}", self.length)
     }
 }
