@@ -4,15 +4,16 @@
 -- decimal_of ds    the number that the text stands for, or why there is none
 use Rattle.std.specs.Prelude.{ℕ, ◌^◌, Bool, cond, not, ◌&&◌, List, length, Ok, Err, Result, ◌==◌, nat_lt, slice_index}
 use Rattle.std.specs.Str.Parse.{digits_value}
-use Rattle.std.specs.Str.{all_ascii_digits}
-use Rattle.payload.specs.declared.decimals.Fault.{Fault}
-use Rattle.payload.specs.declared.decimals.Fault.TheVariants.{NotNumber, OutOfRange}
+use Rattle.std.specs.Char.{is_ascii_digit}
+use Rattle.std.specs.List.{list_all}
+use Rattle.payload.specs.declared.decimals.DecimalError.{DecimalError}
+use Rattle.payload.specs.declared.decimals.DecimalError.TheVariants.{NotNumber, OutOfRange}
 
 abbrev pub leading_zero : List ℕ → Bool
 leading_zero ds = nat_lt 1 (length ds) && slice_index ds 0 == 48
 
 abbrev pub plain : List ℕ → Bool
-plain ds = not (length ds == 0) && (not (leading_zero ds) && all_ascii_digits ds)
+plain ds = not (length ds == 0) && (not (leading_zero ds) && list_all is_ascii_digit ds)
 
-abbrev pub decimal_of : List ℕ → Result ℕ Fault
+abbrev pub decimal_of : List ℕ → Result ℕ DecimalError
 decimal_of ds = cond (plain ds) (cond (nat_lt (digits_value 10 ds) (2 ^ 64)) (Ok (digits_value 10 ds)) (Err OutOfRange)) (Err NotNumber)

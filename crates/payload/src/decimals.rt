@@ -1,46 +1,43 @@
 ghost use Rattle.std.specs.Prelude.{◌≡◌};
-ghost use Rattle.std.specs.Str.{all_ascii_digits};
+ghost use Rattle.std.specs.Char.{is_ascii_digit};
+ghost use Rattle.std.specs.List.{list_all};
 ghost use Rattle.payload.specs.Decimals.{plain, decimal_of};
 
+use thiserror::Error;
+
 /// Why a text is no number.
-#[derive(Clone, Copy)]
-pub enum Fault {
+#[derive(Clone, Copy, PartialEq, Eq, Debug, Error)]
+pub enum DecimalError {
     /// It is empty, has a leading zero, or holds something else than a digit.
+    #[error("not a decimal number")]
     NotNumber = 1,
     /// It does not fit 64 bits.
+    #[error("the number does not fit 64 bits")]
     OutOfRange = 2,
 }
 
 /// The number that a decimal text without sign or leading zeros stands for.
-pub fn decimal(text: &str) -> Result<u64, Fault>
+pub fn decimal(text: &str) -> Result<u64, DecimalError>
     ensures { result ≡ decimal_of text.now }
 {
     if !is_plain(text.as_bytes()) {
-        return Err(Fault::NotNumber);
+        return Err(DecimalError::NotNumber);
     }
-    match text.parse::<u64>() {
-        Ok(number) => Ok(number),
-        Err(_) => Err(Fault::OutOfRange),
-    }
+    text.parse().map_err(|_| DecimalError::OutOfRange)
 }
 
 // Whether the text is some digits, with no zero in front of others.
 fn is_plain(text: &[u8]) -> bool
     ensures { result ≡ plain text.now }
 {
-    if text.is_empty() || text.len() > 1 && text[0] == b'0' {
-        return false;
+    match text {
+        [] | [b'0', _, ..] => false,
+        _ => all_digits(text),
     }
-    all_digits(text)
 }
 
 fn all_digits(text: &[u8]) -> bool
-    ensures { result ≡ all_ascii_digits text.now }
+    ensures { result ≡ list_all is_ascii_digit text.now }
 {
-    for c in text {
-        if !c.is_ascii_digit() {
-            return false;
-        }
-    }
-    true
+    text.iter().all(u8::is_ascii_digit)
 }

@@ -24,10 +24,10 @@ fn valves_are_alike(rt: HostRuntime) -> Result<(), Fail> {
         "flow:9999",
     ];
     for a in words {
-        let first = Valve::read(a)?;
+        let first = a.parse::<Valve>()?;
         assert_eq!(rt; format!(in rt.alloc(); "{first}")?.as_str(), a);
         for b in words {
-            assert!(rt; first.alike(&Valve::read(b)?) == (a == b));
+            assert!(rt; first.alike(&b.parse::<Valve>()?) == (a == b));
         }
     }
     Ok(())
@@ -71,7 +71,7 @@ fn valves_are_refused() -> Result<(), Fail> {
 
 fn refused(words: [&str; 6], error: ValveError) -> Result<(), Fail> {
     for word in words {
-        if Valve::read(word).err() != Some(error) {
+        if word.parse::<Valve>().err() != Some(error) {
             Err("a word is not refused so")?;
         }
     }
@@ -95,7 +95,7 @@ fn tickets_are_alike(rt: HostRuntime) {
 fn tickets_are_read(rt: HostRuntime) -> Result<(), Fail> {
     for length in ["0", "300", "18446744073709551615"] {
         let word = format!(in rt.alloc(); "{DIGEST}:{length}")?;
-        let ticket = Ticket::read(word.as_str())?;
+        let ticket = word.parse::<Ticket>()?;
         assert!(rt; ticket.digest()[10] == 10 && ticket.digest()[31] == 255);
         assert_eq!(rt; format!(in rt.alloc(); "{ticket}")?.as_str(), word.as_str());
     }
@@ -105,7 +105,7 @@ fn tickets_are_read(rt: HostRuntime) -> Result<(), Fail> {
 #[test]
 fn tickets_are_refused(rt: HostRuntime) -> Result<(), Fail> {
     let heap = rt.alloc();
-    assert_eq!(rt; Ticket::read(DIGEST).err(), Some(TicketError::NoColon));
+    assert_eq!(rt; DIGEST.parse::<Ticket>().err(), Some(TicketError::NoColon));
     for digest in ["", "00", "z"] {
         no_ticket(heap, digest, "1", TicketError::NotDigest)?;
     }
@@ -126,7 +126,7 @@ fn tickets_are_refused(rt: HostRuntime) -> Result<(), Fail> {
 
 fn no_ticket(heap: Global, digest: &str, length: &str, error: TicketError) -> Result<(), Fail> {
     let word = format!(in heap; "{digest}:{length}")?;
-    if Ticket::read(word.as_str()).err() != Some(error) {
+    if word.parse::<Ticket>().err() != Some(error) {
         Err(word)?;
     }
     Ok(())

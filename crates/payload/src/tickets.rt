@@ -1,30 +1,47 @@
-ghost use Rattle.std.specs.Prelude.{◌≡◌, ◌<◌, IfOk, refl};
+ghost use Rattle.std.specs.Prelude.{◌≡◌, refl};
 ghost use Rattle.std.proofs.Common.{sym, ◌∙◌};
-ghost use Rattle.payload.specs.Tickets.{ticket_of, hex_digit, same_ticket};
+ghost use Rattle.std.specs.Char.{is_ascii_uppercase};
+ghost use Rattle.std.specs.List.{list_any};
+ghost use Rattle.payload.specs.Tickets.{ticket_of, ticket_word, digest_of, length_refusal, same_ticket};
 ghost use Rattle.payload.specs.Alike.{decides_ticket};
 
-use crate::decimals::{Fault, decimal};
+use crate::decimals::{DecimalError, decimal};
 use crate::kinds::Payload;
+use hex::FromHex;
 use std::fmt;
+use std::str::FromStr;
+use thiserror::Error;
 
 /// A digest of 32 bytes and a length. The digest is given from outside.
-#[derive(Clone, Copy)]
+#[derive(Clone, Copy, PartialEq, Eq, Debug)]
 pub struct Ticket {
     digest: [u8; 32],
     length: u64,
 }
 
 /// Why a word is no ticket.
-#[derive(Clone, Copy, PartialEq, Eq, Debug)]
+#[derive(Clone, Copy, PartialEq, Eq, Debug, Error)]
 pub enum TicketError {
-    /// There is no colon after the digest.
+    #[error("no colon between digest and length")]
     NoColon = 1,
-    /// The digest is not 64 lowercase hexadecimal digits.
+    #[error("the digest is not 64 lowercase hexadecimal digits")]
     NotDigest = 2,
-    /// The length is not a decimal number.
+    #[error("the length is not a decimal number")]
     NotNumber = 3,
-    /// The length does not fit 64 bits.
+    #[error("the length does not fit 64 bits")]
     OutOfRange = 4,
+}
+
+/// Why a ticket is refused whose length is no number.
+impl From<DecimalError> for TicketError {
+    ghost from_gives = { λ error refusal. refusal ≡ length_refusal error };
+
+    fn from(error: DecimalError) -> TicketError {
+        match error {
+            DecimalError::NotNumber => TicketError::NotNumber,
+            DecimalError::OutOfRange => TicketError::OutOfRange,
+        }
+    }
 }
 
 impl Ticket {
@@ -48,42 +65,35 @@ impl Ticket {
     {
         self.length
     }
+}
 
-    /// The ticket that a word of a log stands for: 64 lowercase hexadecimal
-    /// digits, a colon, and a decimal length without leading zeros.
-    pub fn read(word: &str) -> Result<Ticket, TicketError> {
-        let Some((digest, length)) = word.split_once(':') else {
-            return Err(TicketError::NoColon);
-        };
-        let digest = read_digest(digest.as_bytes())?;
-        match decimal(length) {
-            Ok(length) => Ok(Ticket::new(digest, length)),
-            Err(Fault::NotNumber) => Err(TicketError::NotNumber),
-            Err(Fault::OutOfRange) => Err(TicketError::OutOfRange),
-        }
+/// The ticket that a word of a log stands for: 64 lowercase hexadecimal digits,
+/// a colon, and a decimal length without leading zeros.
+impl FromStr for Ticket {
+    type Err = TicketError;
+
+    ghost from_str_gives = { λ word answer. answer ≡ ticket_word word };
+
+    fn from_str(word: &str) -> Result<Ticket, TicketError> {
+        let (digest, length) = word.split_once(':').ok_or(TicketError::NoColon)?;
+        Ok(Ticket::new(read_digest(digest)?, decimal(length)?))
     }
 }
 
-fn read_digest(text: &[u8]) -> Result<[u8; 32], TicketError> {
-    if text.len() != 64 {
+// `from_hex` takes uppercase digits too, and a log has none.
+fn read_digest(text: &str) -> Result<[u8; 32], TicketError>
+    ensures { result ≡ digest_of text.now }
+{
+    if has_uppercase(text.as_bytes()) {
         return Err(TicketError::NotDigest);
     }
-    let mut digest = [0; 32];
-    for i in 0..digest.len() {
-        digest[i] = read_digit(text[2 * i])? * 16 + read_digit(text[2 * i + 1])?;
-    }
-    Ok(digest)
+    <[u8; 32]>::from_hex(text).map_err(|_| TicketError::NotDigest)
 }
 
-fn read_digit(c: u8) -> Result<u8, TicketError>
-    ensures value { result ≡ hex_digit c }
-    ensures bound { IfOk result (λ d. d < 16) }
+fn has_uppercase(text: &[u8]) -> bool
+    ensures { result ≡ list_any is_ascii_uppercase text.now }
 {
-    match c {
-        b'0'..=b'9' => Ok(c - b'0'),
-        b'a'..=b'f' => Ok(c - b'a' + 10),
-        _ => Err(TicketError::NotDigest),
-    }
+    text.iter().any(u8::is_ascii_uppercase)
 }
 
 /// Alike exactly when all bytes of the digest and the length are the same.
@@ -100,6 +110,7 @@ impl Payload for Ticket {
         (decides_ticket t v).1 (λ k h. s.0 k h ∙ r.0 k h, s.1 ∙ r.1) };
 
     fn alike(&self, other: &Ticket) -> bool {
+        // A rule of the project: the digests are compared element by element, by index.
         for i in 0..32 {
             if self.digest[i] != other.digest[i] {
                 return false;
@@ -113,24 +124,9 @@ impl Payload for Ticket {
 /// 64 lowercase hexadecimal digits, `:`, the length in decimal
 impl fmt::Display for Ticket {
     fn fmt<W: fmt::Write>(&self, f: &mut fmt::Formatter<W>) -> fmt::Result {
-        for byte in self.digest.iter() {
+        for byte in &self.digest {
             write!(f, "{byte:02x}")?;
         }
-        let length = self.length;
-        write!(f, ":{length}")
-    }
-}
-
-impl fmt::Display for TicketError {
-    fn fmt<W: fmt::Write>(&self, f: &mut fmt::Formatter<W>) -> fmt::Result {
-        match self {
-            TicketError::NoColon => write!(f, "no colon between digest and length"),
-            TicketError::NotDigest => write!(
-                f,
-                "the digest is not 64 lowercase hexadecimal digits"
-            ),
-            TicketError::NotNumber => write!(f, "the length is not a decimal number"),
-            TicketError::OutOfRange => write!(f, "the length does not fit 64 bits"),
-        }
+        write!(f, ":{}", self.length)
     }
 }

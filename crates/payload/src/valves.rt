@@ -1,10 +1,12 @@
 ghost use Rattle.std.specs.Prelude.{◌≡◌};
-ghost use Rattle.payload.specs.Valves.{shut_valve, open_valve, part_valve, flow_valve, valve_word, part_word, flow_word, same_valve};
+ghost use Rattle.payload.specs.Valves.{shut_valve, open_valve, part_valve, flow_valve, case_of, number_of, valve_word, number_word, same_valve};
 ghost use Rattle.std.proofs.Common.{rules};
 
-use crate::decimals::{Fault, decimal};
+use crate::decimals::{DecimalError, decimal};
 use crate::kinds::Payload;
 use std::fmt;
+use std::str::FromStr;
+use thiserror::Error;
 
 /// The cases of a valve.
 #[derive(Clone, Copy, PartialEq, Eq, Debug)]
@@ -20,22 +22,28 @@ pub enum Case {
 /// The state of a valve: shut, open, part with 1 to 99 percent, or flow with 0
 /// to 9,999 litres a second. Only the functions below make one, so that there
 /// is no other.
-#[derive(Clone, Copy)]
-pub struct Valve {
-    case: Case,
-    number: u16,
+#[derive(Clone, Copy, PartialEq, Eq, Debug)]
+pub struct Valve(State);
+
+// Private, so that no other module makes a valve.
+#[derive(Clone, Copy, PartialEq, Eq, Debug)]
+enum State {
+    Shut,
+    Open,
+    Part(u16),
+    Flow(u16),
 }
 
 /// Why there is no such valve.
-#[derive(Clone, Copy, PartialEq, Eq, Debug)]
+#[derive(Clone, Copy, PartialEq, Eq, Debug, Error)]
 pub enum ValveError {
-    /// The word is none of a valve's.
+    #[error("not a word of a valve")]
     UnknownWord = 1,
-    /// The number is not a decimal number.
+    #[error("not a decimal number")]
     NotNumber = 2,
-    /// A part is not 1 to 99 percent.
+    #[error("a part is 1 to 99 percent")]
     PartRange = 3,
-    /// A flow is not 0 to 9,999 litres a second.
+    #[error("a flow is 0 to 9999 litres a second")]
     FlowRange = 4,
 }
 
@@ -44,101 +52,89 @@ impl Valve {
     pub fn shut() -> Valve
         ensures { result ≡ shut_valve }
     {
-        Valve {
-            case: Case::Shut,
-            number: 0,
-        }
+        Valve(State::Shut)
     }
 
     /// The open valve.
     pub fn open() -> Valve
         ensures { result ≡ open_valve }
     {
-        Valve {
-            case: Case::Open,
-            number: 0,
-        }
+        Valve(State::Open)
     }
 
     /// A valve open by 1 to 99 percent. Refused for another number.
     pub fn part(percent: u64) -> Result<Valve, ValveError>
         ensures { result ≡ part_valve percent }
     {
-        if percent < 1 || percent > 99 {
-            return Err(ValveError::PartRange);
+        match percent {
+            1..=99 => Ok(Valve(State::Part(percent as u16))),
+            _ => Err(ValveError::PartRange),
         }
-        Ok(Valve {
-            case: Case::Part,
-            number: percent as u16,
-        })
     }
 
     /// A valve set to 0 to 9,999 litres a second. Refused for another number.
     pub fn flow(litres: u64) -> Result<Valve, ValveError>
         ensures { result ≡ flow_valve litres }
     {
-        if litres > 9999 {
-            return Err(ValveError::FlowRange);
+        match litres {
+            0..=9999 => Ok(Valve(State::Flow(litres as u16))),
+            _ => Err(ValveError::FlowRange),
         }
-        Ok(Valve {
-            case: Case::Flow,
-            number: litres as u16,
-        })
     }
 
     /// The case.
     pub fn case(&self) -> Case
-        ensures { result ≡ self.now.case }
+        ensures { result ≡ case_of self.now }
     {
-        self.case
+        match self.0 {
+            State::Shut => Case::Shut,
+            State::Open => Case::Open,
+            State::Part(_) => Case::Part,
+            State::Flow(_) => Case::Flow,
+        }
     }
 
     /// The percent of a part, the litres a second of a flow, else 0.
     pub fn number(&self) -> u16
-        ensures { result ≡ self.now.number }
+        ensures { result ≡ number_of self.now }
     {
-        self.number
+        match self.0 {
+            State::Shut | State::Open => 0,
+            State::Part(number) | State::Flow(number) => number,
+        }
     }
+}
 
-    /// The valve that a word of a log stands for: `shut`, `open`, `part:40` or
-    /// `flow:300`, the number without leading zeros.
-    pub fn read(word: &str) -> Result<Valve, ValveError>
-        ensures { result ≡ valve_word word.now }
-    {
+/// The valve that a word of a log stands for: `shut`, `open`, `part:40` or
+/// `flow:300`, the number without leading zeros.
+impl FromStr for Valve {
+    type Err = ValveError;
+
+    ghost from_str_gives = { λ word answer. answer ≡ valve_word word };
+
+    fn from_str(word: &str) -> Result<Valve, ValveError> {
         if word == "shut" {
-            return Ok(Valve::shut());
+            Ok(Valve::shut())
+        } else if word == "open" {
+            Ok(Valve::open())
+        } else if let Some(percent) = word.strip_prefix("part:") {
+            Valve::part(read_number(percent, ValveError::PartRange)?)
+        } else if let Some(litres) = word.strip_prefix("flow:") {
+            Valve::flow(read_number(litres, ValveError::FlowRange)?)
+        } else {
+            Err(ValveError::UnknownWord)
         }
-        if word == "open" {
-            return Ok(Valve::open());
-        }
-        if let Some(number) = word.strip_prefix("part:") {
-            return read_part(number);
-        }
-        if let Some(number) = word.strip_prefix("flow:") {
-            return read_flow(number);
-        }
-        Err(ValveError::UnknownWord)
     }
 }
 
-fn read_part(number: &str) -> Result<Valve, ValveError>
-    ensures { result ≡ part_word number.now }
+// The number in a word of a valve. One that does not fit 64 bits is out of `range`.
+fn read_number(number: &str, range: ValveError) -> Result<u64, ValveError>
+    ensures { result ≡ number_word range number.now }
 {
-    match decimal(number) {
-        Ok(percent) => Valve::part(percent),
-        Err(Fault::NotNumber) => Err(ValveError::NotNumber),
-        Err(Fault::OutOfRange) => Err(ValveError::PartRange),
-    }
-}
-
-fn read_flow(number: &str) -> Result<Valve, ValveError>
-    ensures { result ≡ flow_word number.now }
-{
-    match decimal(number) {
-        Ok(litres) => Valve::flow(litres),
-        Err(Fault::NotNumber) => Err(ValveError::NotNumber),
-        Err(Fault::OutOfRange) => Err(ValveError::FlowRange),
-    }
+    decimal(number).map_err(|error| match error {
+        DecimalError::NotNumber => ValveError::NotNumber,
+        DecimalError::OutOfRange => range,
+    })
 }
 
 /// Alike exactly when the case and the number are the same.
@@ -152,31 +148,18 @@ impl Payload for Valve {
     ghost transitive = { Prim.search rules };
 
     fn alike(&self, other: &Valve) -> bool {
-        let same_case = self.case as u8 == other.case as u8;
-        same_case && self.number == other.number
+        self.case() == other.case() && self.number() == other.number()
     }
 }
 
 /// `shut`, `open`, `part:40` or `flow:300`
 impl fmt::Display for Valve {
     fn fmt<W: fmt::Write>(&self, f: &mut fmt::Formatter<W>) -> fmt::Result {
-        let number = self.number;
-        match self.case {
-            Case::Shut => write!(f, "shut"),
-            Case::Open => write!(f, "open"),
-            Case::Part => write!(f, "part:{number}"),
-            Case::Flow => write!(f, "flow:{number}"),
-        }
-    }
-}
-
-impl fmt::Display for ValveError {
-    fn fmt<W: fmt::Write>(&self, f: &mut fmt::Formatter<W>) -> fmt::Result {
-        match self {
-            ValveError::UnknownWord => write!(f, "not a word of a valve"),
-            ValveError::NotNumber => write!(f, "not a decimal number"),
-            ValveError::PartRange => write!(f, "a part is 1 to 99 percent"),
-            ValveError::FlowRange => write!(f, "a flow is 0 to 9999 litres a second"),
+        match self.0 {
+            State::Shut => write!(f, "shut"),
+            State::Open => write!(f, "open"),
+            State::Part(percent) => write!(f, "part:{percent}"),
+            State::Flow(litres) => write!(f, "flow:{litres}"),
         }
     }
 }
