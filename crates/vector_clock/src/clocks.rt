@@ -54,9 +54,9 @@ impl<const N: usize> Counts<N> {
             }
         }
         if spent {
-            Err(Fault::of(Cause::PenSpent))
+            Err(Cause::PenSpent.into())
         } else {
-            Err(Fault::of(Cause::AtLimit))
+            Err(Cause::AtLimit.into())
         }
     }
 
@@ -144,8 +144,8 @@ mod tests {
         let old = Counts { counts: [1, 0, 2] };
         let new = Counts { counts: [1, 1, 2] };
         let other = Counts { counts: [2, 0, 2] };
-        assert!(rt; new.compare(&new).byte() == 0 && old.compare(&new).byte() == 1);
-        assert!(rt; new.compare(&old).byte() == 2 && new.compare(&other).byte() == 3);
+        assert!(rt; u8::from(new.compare(&new)) == 0 && u8::from(old.compare(&new)) == 1);
+        assert!(rt; u8::from(new.compare(&old)) == 2 && u8::from(new.compare(&other)) == 3);
         let both = new.join(&other);
         assert!(rt; both.covers(&new) && both.covers(&other) && !new.covers(&both));
         assert_eq!(rt; format!(in rt.alloc(); "{both}")?.as_str(), "[2,1,2]");
@@ -155,7 +155,7 @@ mod tests {
     fn cause(answer: Result<Counts<2>, Fault>) -> u8 {
         match answer {
             Ok(_) => 0,
-            Err(fault) => fault.cause.number(),
+            Err(fault) => u8::from(fault.cause),
         }
     }
 }

@@ -56,7 +56,7 @@ impl<const N: usize> Names<N> {
     {
         let size = self.size();
         if size < 2 {
-            return Err(Fault::of(Cause::CannotSplit));
+            return Err(Cause::CannotSplit.into());
         }
         Ok(self.halves(size - size / 2))
     }
@@ -88,7 +88,7 @@ impl<const N: usize> Names<N> {
         let mut held = [false; N];
         for i in 0..N {
             if self.held[i] && other.held[i] {
-                return Err(Fault::of(Cause::PensOverlap));
+                return Err(Cause::PensOverlap.into());
             }
             held[i] = self.held[i] || other.held[i];
         }
@@ -154,7 +154,7 @@ mod tests {
     fn cause<T: Drop>(answer: Result<T, Fault>) -> u8 {
         match answer {
             Ok(_) => 0,
-            Err(fault) => fault.cause.number(),
+            Err(fault) => u8::from(fault.cause),
         }
     }
 }
