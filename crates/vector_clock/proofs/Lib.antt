@@ -1,1 +1,2 @@
-mod Tests
+pub mod FromFn
+pub mod Searched

@@ -1,17 +1,17 @@
 ghost use Rattle.std.specs.Prelude.{◌≡◌};
 ghost use Rattle.clock.specs.Answers.{answered};
 ghost use Rattle.clock.specs.Verdicts.{verdict_of};
-ghost use Rattle.vector_clock.specs.Clocks.{count_of, no_counts, event_due, raised, larger_counts, covered};
+ghost use Rattle.vector_clock.specs.Clocks.{count_of, no_counts, event_due, raised, larger_at, larger_counts, covered};
 
 use crate::pens::Names;
 use clock::{Cause, Fault, Verdict};
-use std::fmt;
+use std::{array, fmt};
 
 // The largest count.
 const LIMIT: u16 = 65535;
 
 /// A count for each name below N: the clock knows as many marks of a name.
-#[derive(Clone, Copy)]
+#[derive(Clone, Copy, PartialEq, Eq, Debug)]
 pub struct Counts<const N: usize> {
     counts: [u16; N],
 }
@@ -28,10 +28,7 @@ impl<const N: usize> Counts<N> {
     pub fn count(&self, name: usize) -> u16
         ensures { result ≡ count_of self.now name }
     {
-        match self.counts.get(name) {
-            Some(count) => *count,
-            None => 0,
-        }
+        self.counts.get(name).copied().unwrap_or(0)
     }
 
     /// One more at the lowest name of the pen whose count is below 65,535.
@@ -40,23 +37,19 @@ impl<const N: usize> Counts<N> {
     pub fn event(&self, pen: &Names<N>) -> Result<Counts<N>, Fault>
         ensures { result ≡ answered (event_due pen.now self.now) (raised pen.now self.now) }
     {
-        let before: &[u16] = &self.counts;
-        let mut spent = true;
-        for (i, count) in before.iter().enumerate() {
-            let open = *count < LIMIT;
-            if pen.has(i) {
-                if open {
-                    let mut counts = self.counts;
-                    counts[i] += 1;
-                    return Ok(Counts { counts });
-                }
-                spent = false;
+        let open = pen
+            .held
+            .iter()
+            .zip(&self.counts)
+            .position(|(held, count)| *held && *count < LIMIT);
+        match open {
+            Some(name) => {
+                let mut counts = self.counts;
+                counts[name] += 1;
+                Ok(Counts { counts })
             }
-        }
-        if spent {
-            Err(Fault::of(Cause::PenSpent))
-        } else {
-            Err(Fault::of(Cause::AtLimit))
+            None if pen.size() == 0 => Err(Cause::PenSpent.into()),
+            None => Err(Cause::AtLimit.into()),
         }
     }
 
@@ -64,23 +57,22 @@ impl<const N: usize> Counts<N> {
     pub fn join(&self, other: &Counts<N>) -> Counts<N>
         ensures { result ≡ larger_counts self.now other.now }
     {
-        let mut counts = [0; N];
-        for i in 0..N {
-            counts[i] = self.counts[i].max(other.counts[i]);
+        let larger = |name| -> u16
+            ensures { result ≡ larger_at self.entry.now other.entry.now name }
+        { self.count(name).max(other.count(name)) };
+        Counts {
+            counts: array::from_fn(larger),
         }
-        Counts { counts }
     }
 
     /// Whether each count is at least the other's.
     pub fn covers(&self, other: &Counts<N>) -> bool
         ensures { result ≡ covered self.now other.now }
     {
-        for i in 0..N {
-            if self.counts[i] < other.counts[i] {
-                return false;
-            }
-        }
-        true
+        self.counts
+            .iter()
+            .zip(&other.counts)
+            .all(|(mine, theirs)| mine >= theirs)
     }
 
     /// The verdict on this clock against the other, in one pass.
@@ -89,14 +81,9 @@ impl<const N: usize> Counts<N> {
     {
         let mut covers = true;
         let mut covered = true;
-        for i in 0..N {
-            let (mine, theirs) = (self.counts[i], other.counts[i]);
-            if mine < theirs {
-                covers = false;
-            }
-            if theirs < mine {
-                covered = false;
-            }
+        for (mine, theirs) in self.counts.iter().zip(&other.counts) {
+            covers &= mine >= theirs;
+            covered &= theirs >= mine;
         }
         Verdict::of(covers, covered)
     }
@@ -119,23 +106,24 @@ impl<const N: usize> fmt::Display for Counts<N> {
 #[cfg(test)]
 mod tests {
     use super::*;
+    use crate::refusal;
     use std::test::Fail;
 
     // Counts rise at the lowest name, then at the next, and stop at the limit.
     #[test]
-    fn counts_to_the_limit(rt: HostRuntime) {
+    fn counts_to_the_limit(rt: HostRuntime) -> Result<(), Fail> {
         let pen = Names::<2>::all();
         let mut clock = Counts {
             counts: [65534, 65534],
         };
         for name in [0, 1] {
-            assert!(rt; clock.count(name) == 65534 && cause(clock.event(&pen)) == 0);
-            if let Ok(next) = clock.event(&pen) {
-                clock = next;
-            }
+            assert!(rt; clock.count(name) == 65534);
+            clock = clock.event(&pen)?;
             assert!(rt; clock.count(name) == 65535);
         }
-        assert!(rt; cause(clock.event(&pen)) == 16 && cause(clock.event(&Names::none())) == 14);
+        assert!(rt; refusal(clock.event(&pen)) == Some(16));
+        assert!(rt; refusal(clock.event(&Names::none())) == Some(14));
+        Ok(())
     }
 
     // Each verdict, and the join of two clocks in conflict.
@@ -144,18 +132,11 @@ mod tests {
         let old = Counts { counts: [1, 0, 2] };
         let new = Counts { counts: [1, 1, 2] };
         let other = Counts { counts: [2, 0, 2] };
-        assert!(rt; new.compare(&new).byte() == 0 && old.compare(&new).byte() == 1);
-        assert!(rt; new.compare(&old).byte() == 2 && new.compare(&other).byte() == 3);
+        assert!(rt; u8::from(new.compare(&new)) == 0 && u8::from(old.compare(&new)) == 1);
+        assert!(rt; u8::from(new.compare(&old)) == 2 && u8::from(new.compare(&other)) == 3);
         let both = new.join(&other);
         assert!(rt; both.covers(&new) && both.covers(&other) && !new.covers(&both));
         assert_eq!(rt; format!(in rt.alloc(); "{both}")?.as_str(), "[2,1,2]");
         Ok(())
-    }
-
-    fn cause(answer: Result<Counts<2>, Fault>) -> u8 {
-        match answer {
-            Ok(_) => 0,
-            Err(fault) => fault.cause.number(),
-        }
     }
 }

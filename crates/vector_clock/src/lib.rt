@@ -8,7 +8,7 @@
 //! let seed = VectorClock::seed();             // {0,1,2,..,15}
 //! let (mine, theirs) = VectorClock::fork(&seed)?;
 //! let clock = VectorClock::blank().event(&theirs)?;
-//! println!(rt, "{theirs} {clock}")?;          // {8,9,..,15} [0,0,0,0,0,0,0,0,1,0,..]
+//! println!(rt; "{theirs} {clock}")?;          // {8,9,..,15} [0,0,0,0,0,0,0,0,1,0,..]
 //! ```
 
 #![tactic(auto)]
@@ -21,3 +21,9 @@ use clock::Clock;
 pub use clocks::Counts;
 pub use kind::{NAMES, VectorClock, VectorPen};
 pub use pens::Names;
+
+// The number with which a call is refused, as the tests name it.
+#[cfg(test)]
+fn refusal<T: Drop>(answer: Result<T, clock::Fault>) -> Option<u8> {
+    answer.err().map(|fault| u8::from(fault.cause))
+}

@@ -1,14 +1,14 @@
 ghost use Rattle.std.specs.Prelude.{◌≡◌, ◌+◌, ◌/◌};
 ghost use Rattle.clock.specs.Answers.{answered};
-ghost use Rattle.vector_clock.specs.Pens.{in_pen, size_of, all_names, no_names, fork_due, lower_half, upper_half, unite_due, both_names};
+ghost use Rattle.vector_clock.specs.Pens.{in_pen, size_of, all_names, no_names, fork_due, lower_half, upper_half, unite_due, in_either, both_names};
 
 use clock::{Cause, Fault};
-use std::fmt;
+use std::{array, fmt};
 
 /// A set of names below N: the right to make the marks of those names.
-#[derive(Clone, Copy)]
+#[derive(Clone, Copy, PartialEq, Eq, Debug)]
 pub struct Names<const N: usize> {
-    held: [bool; N],
+    pub(crate) held: [bool; N],
 }
 
 impl<const N: usize> Names<N> {
@@ -30,23 +30,14 @@ impl<const N: usize> Names<N> {
     pub fn has(&self, name: usize) -> bool
         ensures { result ≡ in_pen self.now name }
     {
-        match self.held.get(name) {
-            Some(held) => *held,
-            None => false,
-        }
+        self.held.get(name).copied().unwrap_or(false)
     }
 
     /// How many names the pen has.
     pub fn size(&self) -> usize
         ensures { result ≡ size_of self.now }
     {
-        let mut size = 0;
-        for i in 0..N {
-            if self.held[i] {
-                size += 1;
-            }
-        }
-        size
+        self.held.iter().filter(|held| **held).count()
     }
 
     /// Parts a pen in two: the lowest half of its names, rounded up, and the
@@ -56,7 +47,7 @@ impl<const N: usize> Names<N> {
     {
         let size = self.size();
         if size < 2 {
-            return Err(Fault::of(Cause::CannotSplit));
+            return Err(Cause::CannotSplit.into());
         }
         Ok(self.halves(size - size / 2))
     }
@@ -69,12 +60,11 @@ impl<const N: usize> Names<N> {
         let mut lower = [false; N];
         let mut upper = [false; N];
         let mut seen = 0;
-        for i in 0..N {
-            let held = self.held[i];
+        for (name, held) in self.held.iter().enumerate() {
             let low = seen < half;
-            lower[i] = held && low;
-            upper[i] = held && !low;
-            if held {
+            lower[name] = *held && low;
+            upper[name] = *held && !low;
+            if *held {
                 seen += 1;
             }
         }
@@ -85,14 +75,20 @@ impl<const N: usize> Names<N> {
     pub fn unite(&self, other: &Names<N>) -> Result<Names<N>, Fault>
         ensures { result ≡ answered (unite_due self.now other.now) (both_names self.now other.now) }
     {
-        let mut held = [false; N];
-        for i in 0..N {
-            if self.held[i] && other.held[i] {
-                return Err(Fault::of(Cause::PensOverlap));
-            }
-            held[i] = self.held[i] || other.held[i];
+        let shared = self
+            .held
+            .iter()
+            .zip(&other.held)
+            .any(|(mine, theirs)| *mine && *theirs);
+        if shared {
+            return Err(Cause::PensOverlap.into());
         }
-        Ok(Names { held })
+        let either = |name| -> bool
+            ensures { result ≡ in_either self.entry.now other.entry.now name }
+        { self.has(name) || other.has(name) };
+        Ok(Names {
+            held: array::from_fn(either),
+        })
     }
 }
 
@@ -117,44 +113,32 @@ impl<const N: usize> fmt::Display for Names<N> {
 #[cfg(test)]
 mod tests {
     use super::*;
+    use crate::refusal;
     use std::test::Fail;
 
     // All names are forked down to one, and united again.
     #[test]
-    fn forks_and_unites(rt: HostRuntime) {
+    fn forks_and_unites(rt: HostRuntime) -> Result<(), Fail> {
         let mut pen = Names::<16>::all();
         let mut rest = Names::<16>::none();
         for size in [8, 4, 2, 1] {
-            if let Ok((lower, upper)) = pen.fork() {
-                assert!(rt; lower.size() == size && upper.size() == size && upper.has(size));
-                pen = lower;
-                if let Ok(both) = rest.unite(&upper) {
-                    rest = both;
-                }
-            }
+            let (lower, upper) = pen.fork()?;
+            assert!(rt; lower.size() == size && upper.size() == size && upper.has(size));
+            pen = lower;
+            rest = rest.unite(&upper)?;
         }
-        assert!(rt; pen.size() == 1 && pen.has(0) && cause(pen.fork()) == 11);
-        assert!(rt; rest.size() == 15 && cause(rest.unite(&rest)) == 12);
-        assert!(rt; cause(rest.unite(&pen)) == 0);
+        assert!(rt; pen.size() == 1 && pen.has(0) && refusal(pen.fork()) == Some(11));
+        assert!(rt; rest.size() == 15 && refusal(rest.unite(&rest)) == Some(12));
+        assert!(rt; rest.unite(&pen).is_ok());
+        Ok(())
     }
 
     // An odd name goes to the lower half.
     #[test]
     fn writes_names(rt: HostRuntime) -> Result<(), Fail> {
-        match Names::<5>::all().fork() {
-            Ok((lower, upper)) => {
-                let text = format!(in rt.alloc(); "{lower} {upper}")?;
-                assert_eq!(rt; text.as_str(), "{0,1,2} {3,4}");
-                Ok(())
-            }
-            Err(_) => Err(Fail::new("no fork")),
-        }
-    }
-
-    fn cause<T: Drop>(answer: Result<T, Fault>) -> u8 {
-        match answer {
-            Ok(_) => 0,
-            Err(fault) => fault.cause.number(),
-        }
+        let (lower, upper) = Names::<5>::all().fork()?;
+        let text = format!(in rt.alloc(); "{lower} {upper}")?;
+        assert_eq!(rt; text.as_str(), "{0,1,2} {3,4}");
+        Ok(())
     }
 }
