@@ -39,7 +39,7 @@ impl TreeClock {
         let mut out = desk();
         let n = join_into(parts(&self.nodes), 0, parts(&other.nodes), 0, &mut out);
         if n > MOST_NODES {
-            return Err(Fault::of(Cause::ClockTooLarge));
+            return Err(Cause::ClockTooLarge.into());
         }
         Ok(TreeClock {
             nodes: store(&out[0..n]),

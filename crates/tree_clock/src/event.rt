@@ -31,7 +31,7 @@ impl TreeClock {
         let id = parts(&pen.nodes);
         let e = parts(&self.nodes);
         if is_zero(id) {
-            return Err(Fault::of(Cause::PenSpent));
+            return Err(Cause::PenSpent.into());
         }
         let mut out = desk();
         let n = fill_into(id, e, &mut out);
@@ -53,10 +53,10 @@ fn grown(id: &[Node], e: &[Node]) -> Result<TreeClock, Fault>
     let mut out = desk();
     let (n, value) = grow_leaf(id, e, 0, 12, &mut out);
     if n > MOST_NODES {
-        return Err(Fault::of(Cause::ClockTooLarge));
+        return Err(Cause::ClockTooLarge.into());
     }
     if value > MOST_VALUE {
-        return Err(Fault::of(Cause::AtLimit));
+        return Err(Cause::AtLimit.into());
     }
     Ok(TreeClock {
         nodes: store(&out[0..n]),

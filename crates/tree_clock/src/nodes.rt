@@ -1,29 +1,16 @@
-ghost use Rattle.std.specs.Prelude.{◌≡◌, ℕ, ◌+◌, ◌<◌, ◌≤◌, List, [], ◌∷◌, ◌++◌, length, Decides, nat_eq};
-ghost use Rattle.std.specs.Ordering.{on, eq_of_both};
+ghost use Rattle.std.specs.Prelude.{◌≡◌, ℕ, ◌+◌, ◌<◌, ◌≤◌, List, [], ◌∷◌, ◌++◌, length};
 ghost use Rattle.tree_rules.specs.Events.{Event, leaf, node, size as size_of, top, lo, hi};
 ghost use Rattle.tree_rules.specs.Ids.{Id, is_off, is_on};
 ghost use Rattle.tree_rules.specs.Shape.{shape};
 ghost use Rattle.tree_clock.specs.Flat.{flat, pad, stored, Flat, Laid, Stands};
-ghost use Rattle.std.specs.Cmp.Rules.{comparing};
-ghost use Rattle.std.proofs.Common.{rules};
 
 // A node of a tree that lies in an array, root first, then the lower tree, then
 // the upper. `size` counts the nodes of the whole subtree, 1 for a leaf, so that
 // a subtree is a part of the array wherever it stands.
-#[derive(Clone, Copy)]
+#[derive(Clone, Copy, PartialEq, Eq, Debug)]
 pub(crate) struct Node {
     pub(crate) base: u16,
     pub(crate) size: u16,
-}
-
-impl PartialEq for Node {
-    ghost eq = { eq_of_both (on (λ v. v.base) nat_eq) (on (λ v. v.size) nat_eq) };
-
-    ghost laws = { Prim.search (comparing, rules) };
-
-    fn eq(&self, other: &Node) -> bool {
-        self.base == other.base && self.size == other.size
-    }
 }
 
 // The limits of a tree: its nodes, and its largest value.

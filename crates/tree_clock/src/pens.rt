@@ -52,7 +52,7 @@ impl TreePen {
     {
         let id = parts(&self.nodes);
         if cannot_split(id, 12) {
-            return Err(Fault::of(Cause::CannotSplit));
+            return Err(Cause::CannotSplit.into());
         }
         Ok((half_of(id, false), half_of(id, true)))
     }
@@ -67,12 +67,12 @@ impl TreePen {
         let a = parts(&self.nodes);
         let b = parts(&other.nodes);
         if overlaps(a, b) {
-            return Err(Fault::of(Cause::PensOverlap));
+            return Err(Cause::PensOverlap.into());
         }
         let mut out = desk();
         let n = join_into(a, 0, b, 0, &mut out);
         if n > MOST_NODES {
-            return Err(Fault::of(Cause::PenTooLarge));
+            return Err(Cause::PenTooLarge.into());
         }
         Ok(TreePen {
             nodes: store(&out[0..n]),

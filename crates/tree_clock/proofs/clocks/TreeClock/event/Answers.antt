@@ -21,7 +21,7 @@ pub is_zero-requires : goal.is_zero-requires
 is_zero-requires c = (shape _, pen_flat _ c.requires.made.1 _ c.parts-id.ensures)
 
 pub returns-then-is_zero : goal.returns-then-is_zero
-returns-then-is_zero c = record { result = event_spent _ _ c.requires.made.1 c.requires.made.0 _ _ c.parts-id.ensures c.parts-e.ensures _ c.is_zero.ensures _ _ c.if-is_zero.true c.of.ensures; marks = tt }
+returns-then-is_zero c = record { result = event_spent _ _ c.requires.made.1 c.requires.made.0 _ _ c.parts-id.ensures c.parts-e.ensures _ c.is_zero.ensures _ _ c.if-is_zero.true c.into.ensures; marks = tt }
 
 pub fill_into-n-requires : goal.fill_into-n-requires
 fill_into-n-requires c =
