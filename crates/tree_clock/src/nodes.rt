@@ -1,8 +1,8 @@
-ghost use Rattle.std.specs.Prelude.{◌≡◌, ℕ, ◌+◌, ◌<◌, ◌≤◌, List, [], ◌∷◌, ◌++◌, length};
+ghost use Rattle.std.specs.Prelude.{◌≡◌, ℕ, ◌+◌, ◌<◌, ◌≤◌, List, [], ◌∷◌, ◌++◌, length, replicate};
 ghost use Rattle.tree_rules.specs.Events.{Event, leaf, node, size as size_of, top, lo, hi};
 ghost use Rattle.tree_rules.specs.Ids.{Id, is_off, is_on};
 ghost use Rattle.tree_rules.specs.Shape.{shape};
-ghost use Rattle.tree_clock.specs.Flat.{flat, pad, stored, Flat, Laid, Stands};
+ghost use Rattle.tree_clock.specs.Flat.{flat, filler, pad, stored, Flat, Laid, Stands};
 
 // A node of a tree that lies in an array, root first, then the lower tree, then
 // the upper. `size` counts the nodes of the whole subtree, 1 for a leaf, so that
@@ -17,6 +17,9 @@ pub(crate) struct Node {
 pub(crate) const MOST_NODES: usize = 63;
 
 pub(crate) const MOST_VALUE: u32 = 65535;
+
+// Room for any operation: a join of two trees has at most 125 nodes.
+pub(crate) const ROOM: usize = 125;
 
 const ZERO: [Node; 1] = [Node { base: 0, size: 1 }];
 
@@ -113,17 +116,11 @@ pub(crate) fn root_into(base: u16, out: &mut [Node], end: usize) -> usize
 }
 
 // Only fillers.
-fn blank() -> [Node; 63]
-    ensures { result ≡ pad [] }
+pub(crate) fn fillers<const N: usize>() -> [Node; N]
+    ensures all { result ≡ replicate N filler }
+    ensures long { length result ≡ N }
 {
-    [Node { base: 0, size: 0 }; 63]
-}
-
-// Room for any operation: a join of two trees has at most 125 nodes.
-pub(crate) fn desk() -> [Node; 125]
-    ensures { length result ≡ 125 }
-{
-    [Node { base: 0, size: 0 }; 125]
+    [Node { base: 0, size: 0 }; N]
 }
 
 // A tree of at most 63 nodes as it is stored.
@@ -131,7 +128,7 @@ pub(crate) fn store(s: &[Node]) -> [Node; 63]
     requires { length s.now ≤ 63 }
     ensures { result ≡ pad s.now }
 {
-    let mut nodes = blank();
+    let mut nodes: [Node; 63] = fillers();
     nodes[0..s.len()].copy_from_slice(s);
     nodes
 }

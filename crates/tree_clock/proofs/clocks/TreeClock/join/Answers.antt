@@ -16,7 +16,7 @@ pub join_into-n-requires : goal.join_into-n-requires
 join_into-n-requires c =
     let a = clock_short _ c.requires.made.0 _ c.parts.ensures in
     let b = clock_short _ c.requires.made.1 _ c.parts-2.ensures in
-    let d = c.desk-out.ensures in
+    let d = c.fillers-out.ensures.long in
     record { below = (clock_under _ c.requires.made.0 _ c.parts.ensures, clock_under _ c.requires.made.1 _ c.parts-2.ensures); room = (omega arith, omega arith) }
 
 pub returns-then-n-gt-MOST_NODES : goal.returns-then-n-gt-MOST_NODES

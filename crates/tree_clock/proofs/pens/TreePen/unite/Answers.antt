@@ -22,7 +22,7 @@ pub join_into-n-requires : goal.join_into-n-requires
 join_into-n-requires c =
     let a = pen_short _ c.requires.made.0 _ c.parts-a.ensures in
     let b = pen_short _ c.requires.made.1 _ c.parts-b.ensures in
-    let d = c.desk-out.ensures in
+    let d = c.fillers-out.ensures.long in
     record { below = (pen_under _ c.requires.made.0 _ c.parts-a.ensures, pen_under _ c.requires.made.1 _ c.parts-b.ensures); room = (omega arith, omega arith) }
 
 pub returns-then-n-gt-MOST_NODES : goal.returns-then-n-gt-MOST_NODES
