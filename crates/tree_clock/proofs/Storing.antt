@@ -19,12 +19,8 @@ node_eq-Decides x y = (
   λ p. and_from (eqb x.base y.base) (eqb x.size y.size) (eq-eqb x.base y.base (ap (λ (v : Node). v.base) p)) (eq-eqb x.size y.size (ap (λ (v : Node). v.size) p)),
 )
 
-pub blank_pad : replicate 63 filler ≡ pad []
-unfolding pad
-blank_pad = refl
-
--- a copy to the front of a blank
-pub fill-pad : (o ys s : List Node) → o ≡ pad [] → ys ≡ s → ys ++ post_of 0 (length s - 0) o ≡ pad s
+-- a copy to the front of fillers
+pub fill-pad : (o ys s : List Node) → o ≡ replicate 63 filler → ys ≡ s → ys ++ post_of 0 (length s - 0) o ≡ pad s
 unfolding pad
 fill-pad o ys s p q =
     let k : 63 - (length s - 0) ≡ 63 - length s = omega arith in

@@ -1,4 +1,5 @@
 pub mod Flat
+pub mod Halves
 pub mod Sides
 pub mod Growth
 pub mod Carried

@@ -8,12 +8,12 @@ ghost use Rattle.tree_clock.specs.Stored.{clock_of, clock_made, SameKnows, tree_
 
 use crate::covers::covers_from;
 use crate::join::join_into;
-use crate::nodes::{MOST_NODES, Node, desk, parts, store, zero};
+use crate::nodes::{MOST_NODES, Node, ROOM, fillers, parts, store, zero};
 use clock::{Cause, Fault, Verdict};
 
 /// A clock of the tree kind: an event tree, which says how many marks are known
 /// at each of the 4,096 places. Only this crate makes one.
-#[derive(Clone, Copy)]
+#[derive(Clone, Copy, PartialEq, Eq, Debug)]
 pub struct TreeClock {
     pub(crate) nodes: [Node; 63],
 }
@@ -36,10 +36,10 @@ impl TreeClock {
         ensures result { result ≡ join_answer self.now other.now }
         ensures marks { IfOk result (λ c. Joined tree_kind self.now other.now c) }
     {
-        let mut out = desk();
+        let mut out: [Node; ROOM] = fillers();
         let n = join_into(parts(&self.nodes), 0, parts(&other.nodes), 0, &mut out);
         if n > MOST_NODES {
-            return Err(Fault::of(Cause::ClockTooLarge));
+            return Err(Cause::ClockTooLarge.into());
         }
         Ok(TreeClock {
             nodes: store(&out[0..n]),

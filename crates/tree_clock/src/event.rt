@@ -14,7 +14,7 @@ ghost use Rattle.tree_clock.specs.Stored.{clock_of, pen_made, clock_made, tree_k
 use crate::clocks::TreeClock;
 use crate::fill::fill_into;
 use crate::grow::grow_leaf;
-use crate::nodes::{MOST_NODES, MOST_VALUE, Node, desk, is_zero, parts, store};
+use crate::nodes::{MOST_NODES, MOST_VALUE, Node, ROOM, fillers, is_zero, parts, store};
 use crate::pens::TreePen;
 use clock::{Cause, Fault};
 
@@ -31,9 +31,9 @@ impl TreeClock {
         let id = parts(&pen.nodes);
         let e = parts(&self.nodes);
         if is_zero(id) {
-            return Err(Fault::of(Cause::PenSpent));
+            return Err(Cause::PenSpent.into());
         }
-        let mut out = desk();
+        let mut out: [Node; ROOM] = fillers();
         let n = fill_into(id, e, &mut out);
         let filled = &out[0..n];
         if filled == e {
@@ -50,13 +50,13 @@ fn grown(id: &[Node], e: &[Node]) -> Result<TreeClock, Fault>
     requires { (((i : Id) × (id.now ≡ flat (shape i)) × NormalId i × (id_depth i ≤ 12) × (is_off i ≡ false))) × (((t : Event) × (e.now ≡ flat t) × (size_of t ≤ 63) × (top t ≤ 65535))) }
     ensures { (i : Id) (t : Event) → id.now ≡ flat (shape i) → e.now ≡ flat t → top t ≤ 65535 → result ≡ answered (past_limits (grow_of i t)) (clock_of (grow_of i t)) }
 {
-    let mut out = desk();
+    let mut out: [Node; ROOM] = fillers();
     let (n, value) = grow_leaf(id, e, 0, 12, &mut out);
     if n > MOST_NODES {
-        return Err(Fault::of(Cause::ClockTooLarge));
+        return Err(Cause::ClockTooLarge.into());
     }
     if value > MOST_VALUE {
-        return Err(Fault::of(Cause::AtLimit));
+        return Err(Cause::AtLimit.into());
     }
     Ok(TreeClock {
         nodes: store(&out[0..n]),

@@ -1,35 +1,25 @@
-ghost use Rattle.std.specs.Prelude.{◌≡◌, ℕ, ◌+◌, ◌<◌, ◌≤◌, List, [], ◌∷◌, ◌++◌, length, Decides, nat_eq};
-ghost use Rattle.std.specs.Ordering.{on, eq_of_both};
+ghost use Rattle.std.specs.Prelude.{◌≡◌, ℕ, ◌+◌, ◌<◌, ◌≤◌, List, [], ◌∷◌, ◌++◌, length, replicate};
 ghost use Rattle.tree_rules.specs.Events.{Event, leaf, node, size as size_of, top, lo, hi};
 ghost use Rattle.tree_rules.specs.Ids.{Id, is_off, is_on};
 ghost use Rattle.tree_rules.specs.Shape.{shape};
-ghost use Rattle.tree_clock.specs.Flat.{flat, pad, stored, Flat, Laid, Stands};
-ghost use Rattle.std.specs.Cmp.Rules.{comparing};
-ghost use Rattle.std.proofs.Common.{rules};
+ghost use Rattle.tree_clock.specs.Flat.{flat, filler, pad, stored, Flat, Laid, Stands};
 
 // A node of a tree that lies in an array, root first, then the lower tree, then
 // the upper. `size` counts the nodes of the whole subtree, 1 for a leaf, so that
 // a subtree is a part of the array wherever it stands.
-#[derive(Clone, Copy)]
+#[derive(Clone, Copy, PartialEq, Eq, Debug)]
 pub(crate) struct Node {
     pub(crate) base: u16,
     pub(crate) size: u16,
-}
-
-impl PartialEq for Node {
-    ghost eq = { eq_of_both (on (λ v. v.base) nat_eq) (on (λ v. v.size) nat_eq) };
-
-    ghost laws = { Prim.search (comparing, rules) };
-
-    fn eq(&self, other: &Node) -> bool {
-        self.base == other.base && self.size == other.size
-    }
 }
 
 // The limits of a tree: its nodes, and its largest value.
 pub(crate) const MOST_NODES: usize = 63;
 
 pub(crate) const MOST_VALUE: u32 = 65535;
+
+// Room for any operation: a join of two trees has at most 125 nodes.
+pub(crate) const ROOM: usize = 125;
 
 const ZERO: [Node; 1] = [Node { base: 0, size: 1 }];
 
@@ -126,17 +116,11 @@ pub(crate) fn root_into(base: u16, out: &mut [Node], end: usize) -> usize
 }
 
 // Only fillers.
-fn blank() -> [Node; 63]
-    ensures { result ≡ pad [] }
+pub(crate) fn fillers<const N: usize>() -> [Node; N]
+    ensures all { result ≡ replicate N filler }
+    ensures long { length result ≡ N }
 {
-    [Node { base: 0, size: 0 }; 63]
-}
-
-// Room for any operation: a join of two trees has at most 125 nodes.
-pub(crate) fn desk() -> [Node; 125]
-    ensures { length result ≡ 125 }
-{
-    [Node { base: 0, size: 0 }; 125]
+    [Node { base: 0, size: 0 }; N]
 }
 
 // A tree of at most 63 nodes as it is stored.
@@ -144,7 +128,7 @@ pub(crate) fn store(s: &[Node]) -> [Node; 63]
     requires { length s.now ≤ 63 }
     ensures { result ≡ pad s.now }
 {
-    let mut nodes = blank();
+    let mut nodes: [Node; 63] = fillers();
     nodes[0..s.len()].copy_from_slice(s);
     nodes
 }

@@ -5,18 +5,19 @@ ghost use Rattle.tree_rules.specs.Ids.{Id, off, on, id_size};
 ghost use Rattle.tree_rules.specs.Shape.{shape};
 ghost use Rattle.tree_rules.specs.Split.{half};
 ghost use Rattle.tree_clock.specs.Flat.{flat};
+ghost use Rattle.tree_clock.specs.Halves.{is_second};
 ghost use Rattle.tree_clock.specs.Operations.{fork_answer, unite_answer};
 ghost use Rattle.tree_clock.specs.Stored.{pen_of, pen_made, SameMakes, tree_kind};
 
 use crate::join::join_into;
-use crate::nodes::{MOST_NODES, Node, desk, one, parts, store, zero};
-use crate::split::{cannot_split, half_into};
+use crate::nodes::{MOST_NODES, Node, ROOM, fillers, one, parts, store, zero};
+use crate::split::{Half, cannot_split, half_into};
 use crate::sum::overlaps;
 use clock::{Cause, Fault};
 
 /// A pen of the tree kind: an id, which says at which of the 4,096 places marks
 /// may be made. Only this crate makes one.
-#[derive(Clone, Copy)]
+#[derive(Clone, Copy, PartialEq, Eq, Debug)]
 pub struct TreePen {
     pub(crate) nodes: [Node; 63],
 }
@@ -52,9 +53,9 @@ impl TreePen {
     {
         let id = parts(&self.nodes);
         if cannot_split(id, 12) {
-            return Err(Fault::of(Cause::CannotSplit));
+            return Err(Cause::CannotSplit.into());
         }
-        Ok((half_of(id, false), half_of(id, true)))
+        Ok((half_of(id, Half::First), half_of(id, Half::Second)))
     }
 
     /// The id with the places of both. Refused with 12 exactly where some place
@@ -67,12 +68,12 @@ impl TreePen {
         let a = parts(&self.nodes);
         let b = parts(&other.nodes);
         if overlaps(a, b) {
-            return Err(Fault::of(Cause::PensOverlap));
+            return Err(Cause::PensOverlap.into());
         }
-        let mut out = desk();
+        let mut out: [Node; ROOM] = fillers();
         let n = join_into(a, 0, b, 0, &mut out);
         if n > MOST_NODES {
-            return Err(Fault::of(Cause::PenTooLarge));
+            return Err(Cause::PenTooLarge.into());
         }
         Ok(TreePen {
             nodes: store(&out[0..n]),
@@ -90,13 +91,13 @@ impl TreePen {
     }
 }
 
-// The first half of an id, or the second where `second`, as a pen.
-fn half_of(id: &[Node], second: bool) -> TreePen
-    requires { (i : Id) × (id.now ≡ flat (shape i)) × (id_size (half second i) ≤ 63) }
-    ensures { (i : Id) → id.now ≡ flat (shape i) → result ≡ pen_of (half second i) }
+// A half of an id, as a pen.
+fn half_of(id: &[Node], which: Half) -> TreePen
+    requires { (i : Id) × (id.now ≡ flat (shape i)) × (id_size (half (is_second which) i) ≤ 63) }
+    ensures { (i : Id) → id.now ≡ flat (shape i) → result ≡ pen_of (half (is_second which) i) }
 {
-    let mut out = desk();
-    let n = half_into(id, second, &mut out);
+    let mut out: [Node; ROOM] = fillers();
+    let n = half_into(id, which, &mut out);
     TreePen {
         nodes: store(&out[0..n]),
     }

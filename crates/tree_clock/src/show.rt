@@ -3,13 +3,20 @@ use crate::nodes::Node;
 use crate::pens::TreePen;
 use std::fmt;
 
-// Writes the tree that stands at `at`, with its bases or without, and answers
-// where the next one stands. `left` is one more than the depth there may be.
+// An id is written with no bases, an event tree with them.
+#[derive(Clone, Copy)]
+enum Notation {
+    Id,
+    Tree,
+}
+
+// Writes the tree that stands at `at`, and answers where the next one stands.
+// `left` is one more than the depth there may be.
 fn show<W: fmt::Write>(
     nodes: &[Node],
     at: usize,
     left: u8,
-    bases: bool,
+    notation: Notation,
     f: &mut fmt::Formatter<W>,
 ) -> Result<usize, fmt::Error> {
     if at >= nodes.len() || left == 0 {
@@ -21,12 +28,12 @@ fn show<W: fmt::Write>(
         return Ok(at + 1);
     }
     f.write_str("(")?;
-    if bases {
+    if let Notation::Tree = notation {
         write!(f, "{base},")?;
     }
-    let mid = show(nodes, at + 1, left - 1, bases, f)?;
+    let mid = show(nodes, at + 1, left - 1, notation, f)?;
     f.write_str(",")?;
-    let end = show(nodes, mid, left - 1, bases, f)?;
+    let end = show(nodes, mid, left - 1, notation, f)?;
     f.write_str(")")?;
     Ok(end)
 }
@@ -34,7 +41,7 @@ fn show<W: fmt::Write>(
 /// An id as the literature writes it, as `((1,0),0)`.
 impl fmt::Display for TreePen {
     fn fmt<W: fmt::Write>(&self, f: &mut fmt::Formatter<W>) -> fmt::Result {
-        show(&self.nodes, 0, 13, false, f)?;
+        show(&self.nodes, 0, 13, Notation::Id, f)?;
         Ok(())
     }
 }
@@ -42,7 +49,7 @@ impl fmt::Display for TreePen {
 /// An event tree as the literature writes it, as `(0,1,0)`.
 impl fmt::Display for TreeClock {
     fn fmt<W: fmt::Write>(&self, f: &mut fmt::Formatter<W>) -> fmt::Result {
-        show(&self.nodes, 0, 13, true, f)?;
+        show(&self.nodes, 0, 13, Notation::Tree, f)?;
         Ok(())
     }
 }

@@ -21,16 +21,16 @@ pub is_zero-requires : goal.is_zero-requires
 is_zero-requires c = (shape _, pen_flat _ c.requires.made.1 _ c.parts-id.ensures)
 
 pub returns-then-is_zero : goal.returns-then-is_zero
-returns-then-is_zero c = record { result = event_spent _ _ c.requires.made.1 c.requires.made.0 _ _ c.parts-id.ensures c.parts-e.ensures _ c.is_zero.ensures _ _ c.if-is_zero.true c.of.ensures; marks = tt }
+returns-then-is_zero c = record { result = event_spent _ _ c.requires.made.1 c.requires.made.0 _ _ c.parts-id.ensures c.parts-e.ensures _ c.is_zero.ensures _ _ c.if-is_zero.true c.into.ensures; marks = tt }
 
 pub fill_into-n-requires : goal.fill_into-n-requires
 fill_into-n-requires c =
     let l = clock_short _ c.requires.made.0 _ c.parts-e.ensures in
-    let d = c.desk-out.ensures in
+    let d = c.fillers-out.ensures.long in
     record { below = fill_given _ _ c.requires.made.1 c.requires.made.0 _ _ c.parts-id.ensures c.parts-e.ensures; room = (omega arith, omega arith) }
 
 pub slice_bounds-filled-end : goal.slice_bounds-filled-end
-slice_bounds-filled-end c = omega (arith, filled-size _ _ c.requires.made.1 c.requires.made.0 _ _ c.parts-id.ensures c.parts-e.ensures _ _ c.fill_into-n.ensures.stands, c.fill_into-n.ensures.long, c.desk-out.ensures)
+slice_bounds-filled-end c = omega (arith, filled-size _ _ c.requires.made.1 c.requires.made.0 _ _ c.parts-id.ensures c.parts-e.ensures _ _ c.fill_into-n.ensures.stands, c.fill_into-n.ensures.long, c.fillers-out.ensures.long)
 
 pub grown-requires : goal.grown-requires
 grown-requires c = (event_grown_id _ _ c.requires.made.1 c.requires.made.0 _ _ c.parts-id.ensures c.parts-e.ensures _ c.is_zero.ensures c.if-is_zero.false, event_grown_tree _ _ c.requires.made.1 c.requires.made.0 _ _ c.parts-id.ensures c.parts-e.ensures _ c.is_zero.ensures c.if-is_zero.false)

@@ -16,11 +16,11 @@ pub join_into-n-requires : goal.join_into-n-requires
 join_into-n-requires c =
     let a = clock_short _ c.requires.made.0 _ c.parts.ensures in
     let b = clock_short _ c.requires.made.1 _ c.parts-2.ensures in
-    let d = c.desk-out.ensures in
+    let d = c.fillers-out.ensures.long in
     record { below = (clock_under _ c.requires.made.0 _ c.parts.ensures, clock_under _ c.requires.made.1 _ c.parts-2.ensures); room = (omega arith, omega arith) }
 
 pub returns-then-n-gt-MOST_NODES : goal.returns-then-n-gt-MOST_NODES
-returns-then-n-gt-MOST_NODES c = record { result = join_large _ _ c.requires.made.0 c.requires.made.1 _ _ c.parts.ensures c.parts-2.ensures _ _ c.join_into-n.ensures.stands _ _ c.if-n-gt-MOST_NODES.true c.of.ensures; marks = tt }
+returns-then-n-gt-MOST_NODES c = record { result = join_large _ _ c.requires.made.0 c.requires.made.1 _ _ c.parts.ensures c.parts-2.ensures _ _ c.join_into-n.ensures.stands _ _ c.if-n-gt-MOST_NODES.true c.into.ensures; marks = tt }
 
 pub store-requires : goal.store-requires
 store-requires c = front_short _ _ 63 c.if-n-gt-MOST_NODES.false

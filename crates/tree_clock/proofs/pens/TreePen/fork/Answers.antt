@@ -15,7 +15,7 @@ cannot_split-requires c =
     (_, pen_flat _ c.requires.made _ c.parts-id.ensures, f.1, f.2)
 
 pub returns-then-cannot_split : goal.returns-then-cannot_split
-returns-then-cannot_split c = record { result = fork_refused _ c.requires.made _ c.parts-id.ensures _ c.cannot_split.ensures _ _ c.if-cannot_split.true c.of.ensures; marks = tt }
+returns-then-cannot_split c = record { result = fork_refused _ c.requires.made _ c.parts-id.ensures _ c.cannot_split.ensures _ _ c.if-cannot_split.true c.into.ensures; marks = tt }
 
 pub half_of-requires : goal.half_of-requires
 half_of-requires c = half_fits _ c.requires.made _ c.parts-id.ensures _ c.cannot_split.ensures c.if-cannot_split.false false
