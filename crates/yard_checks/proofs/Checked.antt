@@ -1,13 +1,11 @@
 -- What the code may rely on once a call's checks have passed.
-use Rattle.std.proofs.Common.{◌≡◌, ℕ, ◌<◌, ◌≤◌, List, [], ◌∷◌, ◌++◌, length, None, Ok, Option, refl}
-use Rattle.clock.specs.declared.faults.Fault.{Fault}
+use Rattle.std.proofs.Common.{◌≡◌, ℕ, ◌<◌, ◌≤◌, List, length, None, Ok, refl}
 use Rattle.history.specs.declared.tables.Berth.{Berth}
 use Rattle.history.specs.declared.tables.Record.{Record}
 use Rattle.history.specs.Tables.{Card}
 use Rattle.history.specs.Checks.{wrong_sizes, no_berth}
 use Rattle.history.specs.Settle.{settle_plain}
 use Rattle.history.specs.Fork.{fork_plain}
-use Rattle.history.specs.Retire.{retire_plain}
 use Rattle.history.specs.Pull.{pull_checks}
 use Rattle.history.specs.Report.{report_checks}
 use Rattle.history.proofs.Due.{passed, fit, berth_below, file_below, differ, roomy}
@@ -44,12 +42,6 @@ module _ {Pen C P : Type 0} (card : Card) (bs : List (Berth Pen)) (cs : List (Re
 
   pub fork_ready : Ok tt ≡ all_pass (fork_plain card bs cs a b) → Ready card (length bs) (length cs) a b × (a ≡ b → ⊥)
   fork_ready p = let q = passed (fork_plain card bs cs a b) (passed_first (fork_plain card bs cs a b) p) in (ready card bs cs a b q.0 q.1.0 q.1.1.0, differ a b q.1.1.1.0)
-
-  pub plain_ready : Ok tt ≡ all_pass (retire_plain card bs cs a b) → Ready card (length bs) (length cs) a b
-  plain_ready p = let q = passed (retire_plain card bs cs a b) (passed_first (retire_plain card bs cs a b) p) in ready card bs cs a b q.0 q.1.0 q.1.1.0
-
-  pub retire_ready : (o : Option Fault) → Ok tt ≡ all_pass (retire_plain card bs cs a b ++ (o ∷ [])) → Ready card (length bs) (length cs) a b × (a ≡ b → ⊥)
-  retire_ready o p = let q = passed (retire_plain card bs cs a b ++ (o ∷ [])) (passed_first (retire_plain card bs cs a b ++ (o ∷ [])) p) in (ready card bs cs a b q.0 q.1.0 q.1.1.0, differ a b q.1.1.1.0)
 
   pub pull_ready : (bytes : List ℕ) → Ok tt ≡ all_pass (pull_checks card bs cs a b bytes) → Ready card (length bs) (length cs) a b × (a ≡ b → ⊥) × (card.files ≤ length bytes)
   pull_ready bytes p = let q = passed (pull_checks card bs cs a b bytes) (passed_first (pull_checks card bs cs a b bytes) p) in (ready card bs cs a b q.0 q.1.0 q.1.1.0, differ a b q.1.1.1.0, roomy card bytes q.1.1.1.1.1.1.0)

@@ -1,9 +1,8 @@
 -- One file is taken, or left: the loops of pull and retire.
-use Rattle.std.proofs.Common.{◌≡◌, ℕ, ◌+◌, ◌*◌, ◌<◌, Bool, true, false, cond, List, length, set, Some, None, Option, sym, refl, ap, ◌∙◌, ⊎_elim, add-zero, arith}
+use Rattle.std.proofs.Common.{◌≡◌, ℕ, ◌+◌, ◌*◌, ◌<◌, Bool, true, false, cond, List, length, Some, None, Option, sym, refl, ap, ◌∙◌, ⊎_elim, add-zero, arith}
 use Rattle.std.specs.List.{slice_get}
 use Rattle.std.proofs.lemmas.Bool.{cases_Bool, cond-true, cond-false}
 use Rattle.clock.specs.declared.verdicts.Verdict.{Verdict}
-use Rattle.clock.specs.declared.verdicts.Verdict.TheVariants.{Stale}
 use Rattle.clock.specs.Meaning.{Meaning, Yes}
 use Rattle.history.specs.declared.tables.Record.{Record}
 use Rattle.history.specs.Tables.{or_else, clock_in, against, judged, is_stale, newer_from, row}
@@ -12,7 +11,6 @@ use Rattle.history.proofs.WellMade.{every_set}
 use Rattle.yard_checks.specs.Entries.{Clocks}
 use Rattle.yard_merging.specs.Taking.{verdict_on, took, put_in}
 use Rattle.yard_checks.proofs.Upto.{upto, row_rule, nth_waits, upto_set, upto_skip, rule_here, row_away, row_begun, row_ended}
-use Rattle.yard_checks.proofs.Verdicts.{is_not_stale}
 
 -- the table after the first n files of berth b
 abbrev pub taking : {Pen C P : Type 0} → Meaning Pen C → ℕ → ℕ → ℕ → List (Record C P) → ℕ → List (Record C P)
@@ -63,14 +61,3 @@ module _ {Pen C P : Type 0} (m : Meaning Pen C) (F a b : ℕ) (cs : List (Record
 
   pub taking_verdict : (n i j : ℕ) (now : List (Record C P)) (v : Verdict) → (a ≡ b → ⊥) → n < F → a * F + n < length cs → b * F + n < length cs → now ≡ taking m F a b cs n → i ≡ b * F + n → j ≡ a * F + n → v ≡ verdict_on m now i j → v ≡ judged m F cs b a n
   taking_verdict n i j now v ne lt la lb e ei ej ev = ev ∙ (λ k. verdict_on m (e k) (ei k) (ej k)) ∙ verdict_taking m F a b cs n ne lt la lb
-
--- one record against another, as the code reads them
-module _ {Pen C P : Type 0} (m : Meaning Pen C) (cs : List (Record C P)) (i j : ℕ) (x z : Record C P) (ex : slice_get cs i ≡ Some x) (ez : slice_get cs j ≡ Some z) (v : Verdict) (ev : v ≡ against m x.clock z.clock) where
-  pub verdict_is : v ≡ verdict_on m cs i j
-  verdict_is = ev ∙ sym (λ k. against m (clock_in m (ex k)) (clock_in m (ez k)))
-
-  pub took_stale : v ≡ Stale → set cs i z ≡ took m cs i j
-  took_stale s = sym (cond-true _ _ _ (ap is_stale (sym verdict_is ∙ s)) ∙ ap (put_in cs i) ez)
-
-  pub took_not : (v ≡ Stale → ⊥) → cs ≡ took m cs i j
-  took_not n = sym (cond-false _ _ _ (ap is_stale (sym verdict_is) ∙ is_not_stale v n))

@@ -1,18 +1,8 @@
 use Rattle.std.proofs.Common.{get_or, Err, ap, ◌∙◌, rules}
 use Rattle.std.proofs.lemmas.Option.{slice_get-get_or}
 use Rattle.std.proofs.lemmas.Result.{err_from_is_err_and}
-use Rattle.yard_editing.proofs.Edited.{edit_checked, edit_denied, edit_done}
+use Rattle.yard_editing.proofs.Edited.{edit_denied, edit_done}
 use Rattle.yard_editing.proofs.editing.edit_copy.Goals as goal
-
-pub returns-in_err-check_edit : goal.returns-in_err-check_edit
-returns-in_err-check_edit g c =
-    let p = err_from_is_err_and c.from_residual.result c.from_residual.ensures.1 in
-    let card = c.args.sizes in
-    edit_checked g.C.Clock.meaning card c.args.berths.now c.args.copies.now c.args.a c.args.f c.args.payload c.in_err-check_edit.field-0.0 c.from_residual.result c.in_err-check_edit.ensures (p.1 ∙ ap Err p.2)
-
-pub event-requires : goal.event-requires
-event-requires g c =
-    (c.requires.made.clocks c.place-i.result _ (slice_get-get_or c.args.copies.now c.place-i.result c.index-copies-i.result (search rules)), c.requires.made.pens c.args.a _ (slice_get-get_or c.args.berths.now c.args.a c.index-berths-a.result (search rules)))
 
 pub returns-in_err-clock : goal.returns-in_err-clock
 returns-in_err-clock g c =

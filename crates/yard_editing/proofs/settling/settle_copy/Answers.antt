@@ -2,24 +2,8 @@ use Rattle.std.proofs.Common.{get_or, length, rules, Err, ap, ◌∙◌, arith}
 use borrow.Author.Rules.{scaled_Fits}
 use Rattle.std.proofs.lemmas.Option.{slice_get-get_or}
 use Rattle.std.proofs.lemmas.Result.{err_from_is_err_and}
-use Rattle.yard_editing.proofs.Settled.{settle_calm, settle_unjoined, joined_made, settle_denied, settle_done}
+use Rattle.yard_editing.proofs.Settled.{joined_made, settle_denied, settle_done}
 use Rattle.yard_editing.proofs.settling.settle_copy.Goals as goal
-
-pub compare-requires : goal.compare-requires
-compare-requires g c = (c.requires.made.clocks c.place-i.result _ (slice_get-get_or c.args.copies.now c.place-i.result c.index-copies-i.result (omega arith)), c.requires.made.clocks c.place-j.result _ (slice_get-get_or c.args.copies.now c.place-j.result c.index-copies-j.result (omega arith)))
-
-pub returns-in_err-check_conflict : goal.returns-in_err-check_conflict
-returns-in_err-check_conflict g c =
-    let p = err_from_is_err_and c.from_residual.result c.from_residual.ensures.1 in
-    settle_calm g.C.Clock.meaning c.args.sizes c.args.berths.now c.args.copies.now c.args.a c.args.b c.args.f c.args.payload c.place-i.result c.place-j.result (get_or c.args.copies.now c.place-i.result c.index-copies-i.result) (get_or c.args.copies.now c.place-j.result c.index-copies-j.result) c.place-i.ensures.is c.place-j.ensures.is (slice_get-get_or c.args.copies.now c.place-i.result c.index-copies-i.result (omega arith)) (slice_get-get_or c.args.copies.now c.place-j.result c.index-copies-j.result (omega arith)) c.compare.result c.compare.ensures c.in_err-check_conflict.field-0.0 c.from_residual.result c.in_err-check_conflict.ensures (p.1 ∙ ap Err p.2)
-
-pub join-requires : goal.join-requires
-join-requires g c = (c.requires.made.clocks c.place-i.result _ (slice_get-get_or c.args.copies.now c.place-i.result c.index-copies-i.result (omega arith)), c.requires.made.clocks c.place-j.result _ (slice_get-get_or c.args.copies.now c.place-j.result c.index-copies-j.result (omega arith)))
-
-pub returns-in_err-joined : goal.returns-in_err-joined
-returns-in_err-joined g c =
-    let p = err_from_is_err_and c.from_residual-in_err-joined.result c.from_residual-in_err-joined.ensures.1 in
-    settle_unjoined g.C.Clock.meaning c.args.sizes c.args.berths.now c.args.copies.now c.args.a c.args.b c.args.f c.args.payload c.place-i.result c.place-j.result (get_or c.args.copies.now c.place-i.result c.index-copies-i.result) (get_or c.args.copies.now c.place-j.result c.index-copies-j.result) c.place-i.ensures.is c.place-j.ensures.is (slice_get-get_or c.args.copies.now c.place-i.result c.index-copies-i.result (omega arith)) (slice_get-get_or c.args.copies.now c.place-j.result c.index-copies-j.result (omega arith)) c.compare.result c.compare.ensures c.in_ok-check_conflict.ensures c.join.result c.join.ensures c.in_err-joined.field-0.0 c.from_residual-in_err-joined.result c.in_err-joined.ensures (p.1 ∙ ap Err p.2)
 
 pub event-requires : goal.event-requires
 event-requires g c = (joined_made g.C.Clock.meaning c.args.sizes c.args.berths.now c.args.copies.now c.args.a c.args.b c.args.f c.args.payload c.place-i.result c.place-j.result (get_or c.args.copies.now c.place-i.result c.index-copies-i.result) (get_or c.args.copies.now c.place-j.result c.index-copies-j.result) c.place-i.ensures.is c.place-j.ensures.is (slice_get-get_or c.args.copies.now c.place-i.result c.index-copies-i.result (omega arith)) (slice_get-get_or c.args.copies.now c.place-j.result c.index-copies-j.result (omega arith)) c.compare.result c.compare.ensures c.in_ok-check_conflict.ensures c.join.result c.join.ensures c.in_ok-joined.joined c.in_ok-joined.ensures g.met.C.Clock.sound c.requires.made.clocks, c.requires.made.pens c.args.b _ (slice_get-get_or c.args.berths.now c.args.b c.index-berths-b.result (omega arith)))

@@ -1,21 +1,9 @@
 use Rattle.std.proofs.Common.{get_or, Err, ap, ◌∙◌, arith}
 use Rattle.std.proofs.lemmas.Option.{slice_get-get_or}
 use Rattle.std.proofs.lemmas.Result.{err_from_is_err_and}
-use Rattle.yard_checks.proofs.Checked.{fork_ready, of_card}
-use Rattle.yard_forking.proofs.Forked.{fork_checked, fork_denied, fork_done}
+use Rattle.yard_checks.proofs.Checked.{fork_ready}
+use Rattle.yard_forking.proofs.Forked.{fork_denied, fork_done}
 use Rattle.yard_forking.proofs.forking.fork_berth.Goals as goal
-
-pub returns-in_err-check_fork : goal.returns-in_err-check_fork
-returns-in_err-check_fork g c =
-    let p = err_from_is_err_and c.from_residual.result c.from_residual.ensures.1 in
-    let card = c.args.sizes in
-    fork_checked g.C.Clock.meaning card c.args.berths.now c.args.copies.now c.args.a c.args.b c.in_err-check_fork.field-0.0 c.from_residual.result c.in_err-check_fork.ensures (p.1 ∙ ap Err p.2)
-
-pub fork-requires : goal.fork-requires
-fork-requires g c =
-    let card = c.args.sizes in
-    let r = fork_ready card c.args.berths.now c.args.copies.now c.args.a c.args.b c.in_ok-check_fork.ensures in
-    c.requires.made.pens c.args.a _ (slice_get-get_or c.args.berths.now c.args.a c.index-berths-a.result (omega arith))
 
 pub returns-in_err-halves : goal.returns-in_err-halves
 returns-in_err-halves g c =
@@ -23,12 +11,6 @@ returns-in_err-halves g c =
     let card = c.args.sizes in
     let r = fork_ready card c.args.berths.now c.args.copies.now c.args.a c.args.b c.in_ok-check_fork.ensures in
     fork_denied g.C.Clock.meaning card c.args.berths.now c.args.copies.now c.args.a c.args.b c.in_ok-check_fork.ensures (get_or c.args.berths.now c.args.a c.index-berths-a.result) (slice_get-get_or c.args.berths.now c.args.a c.index-berths-a.result (omega arith)) c.fork.result c.fork.ensures c.in_err-halves.field-0.0 c.from_residual-in_err-halves.result c.in_err-halves.ensures (p.1 ∙ ap Err p.2)
-
-pub copy_files-requires : goal.copy_files-requires
-copy_files-requires g c =
-    let card = c.args.sizes in
-    let r = fork_ready card c.args.berths.now c.args.copies.now c.args.a c.args.b c.in_ok-check_fork.ensures in
-    (of_card r.0, r.1)
 
 pub returns : goal.returns
 returns g c =

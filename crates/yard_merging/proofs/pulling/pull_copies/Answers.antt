@@ -1,9 +1,8 @@
-use Rattle.std.proofs.Common.{Ok, Err, ap, ◌∙◌}
+use Rattle.std.proofs.Common.{Err, ap, ◌∙◌}
 use Rattle.std.proofs.lemmas.Result.{err_from_is_err_and}
-use Rattle.history.specs.Checks.{left}
 use Rattle.history.specs.Pull.{pull_checks, pulled}
 use Rattle.yard_checks.proofs.Checked.{pull_ready, of_card}
-use Rattle.yard_checks.proofs.Outcomes.{refused_first, passed_first, refused, accepted}
+use Rattle.yard_checks.proofs.Outcomes.{refused_first, refused}
 use Rattle.yard_merging.proofs.pulling.pull_copies.Goals as goal
 
 pub returns-in_err-check_pull : goal.returns-in_err-check_pull
@@ -19,10 +18,3 @@ pull_files-requires g c =
       ready = (of_card r.0, (r.1, r.2));
       made = c.requires.made.clocks;
     }
-
-pub returns : goal.returns
-returns g c =
-    let card = c.args.sizes in
-    let h = c.pull_files.ensures in
-    (λ k. left (Ok (h.taken k, h.conflicts k)) c.args.berths.now (h.copies k) (h.bytes k))
-    ∙ accepted c.args.berths.now c.args.copies.now c.args.bytes.now (pulled g.C.Clock.meaning card c.args.berths.now c.args.copies.now c.args.a c.args.b c.args.bytes.now) _ (passed_first (pull_checks card c.args.berths.now c.args.copies.now c.args.a c.args.b c.args.bytes.now) c.in_ok-check_pull.ensures)

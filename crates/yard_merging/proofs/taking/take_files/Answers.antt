@@ -1,8 +1,8 @@
-use Rattle.std.proofs.Common.{◌≡◌, ◌≤◌, ◌+◌, ◌++◌, ◌∷◌, [], List, length, sym, refl, ap, ◌∙◌, subst, ⊎_elim, arith, length-append}
+use Rattle.std.proofs.Common.{◌≡◌, ◌+◌, ◌++◌, ◌∷◌, [], List, length, sym, refl, ap, ◌∙◌, subst, arith, length-append}
 use Rattle.history.specs.declared.tables.Record.{Record}
 use Rattle.history.proofs.Lookups.{place_within}
 use Rattle.yard_checks.specs.Entries.{Clocks}
-use Rattle.yard_merging.proofs.Taken.{taking, taking-none, taking_all, taking_more, took_clocks}
+use Rattle.yard_merging.proofs.Taken.{taking, taking-none, taking_more, took_clocks}
 use Rattle.yard_merging.proofs.taking.take_files.Goals as goal
 
 pub loop-i-init : goal.loop-i-init
@@ -43,11 +43,3 @@ loop-i-preserved g c =
       subst (λ (l : List (Record g.row.C.Denot g.row.P.Denot)). Clocks g.C.Clock.meaning l) (sym c.take_newer.ensures.copies) (took_clocks g.C.Clock.meaning c.loop-i.copies c.in-Some.i c.in-Some.j v.8),
       omega arith,
     )
-
-pub returns : goal.returns
-returns g c =
-    let v = c.loop-i.invariant in
-    let F = c.args.sizes.files in
-    let n = length c.loop-i.yielded in
-    let over : F ≤ n = ⊎_elim (λ z. omega (arith, z.1.0, v.2, v.3)) (λ z. omega (arith, z.1.0, v.4, v.5)) c.in-None.ensures.steps in
-    v.7 ∙ taking_all g.C.Clock.meaning F c.args.a c.args.b c.args.copies.now c.requires.ready.0.some_files n (omega (arith, over, v.6))

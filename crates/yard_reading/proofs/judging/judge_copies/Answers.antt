@@ -1,19 +1,11 @@
-use Rattle.std.proofs.Common.{[], get_or, Err, ap, ◌∙◌, rules}
+use Rattle.std.proofs.Common.{get_or, rules}
 use Rattle.std.proofs.lemmas.Option.{slice_get-get_or}
-use Rattle.std.proofs.lemmas.Result.{err_from_is_err_and}
-use Rattle.history.specs.Judge.{judge_checks}
-use Rattle.yard_checks.proofs.Outcomes.{refused_first, refused}
 use Rattle.yard_reading.proofs.Judged.{judge_done}
 use Rattle.yard_reading.proofs.judging.judge_copies.Goals as goal
 
 pub compare-verdict-requires : goal.compare-verdict-requires
 compare-verdict-requires g c =
     (c.requires.clocks c.place-i.result _ (slice_get-get_or c.args.copies.now c.place-i.result c.index-copies-i.result (search rules)), c.requires.clocks c.place-j.result _ (slice_get-get_or c.args.copies.now c.place-j.result c.index-copies-j.result (search rules)))
-
-pub returns-in_err-check_judge : goal.returns-in_err-check_judge
-returns-in_err-check_judge g c =
-    let p = err_from_is_err_and c.from_residual.result c.from_residual.ensures.1 in
-    refused c.args.berths.now c.args.copies.now [] _ _ c.in_err-check_judge.field-0.0 c.from_residual.result (refused_first (judge_checks c.args.sizes c.args.berths.now c.args.copies.now c.args.a c.args.b c.args.f) _ c.in_err-check_judge.ensures) (p.1 ∙ ap Err p.2)
 
 pub returns : goal.returns
 returns g c =
