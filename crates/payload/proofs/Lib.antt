@@ -1,1 +1,2 @@
+mod Digests
 mod Reading

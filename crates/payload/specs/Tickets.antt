@@ -2,15 +2,17 @@
 --
 -- ticket_of d n     the ticket with digest d and length n
 -- ticket_word w     the ticket that a word of a log stands for, or the refusal
+-- hex_digit c       the value of the lowercase hexadecimal digit with code c, or the refusal
+-- is_hex_digit c    c is the code of a lowercase hexadecimal digit
+-- digit_at ds i     the value of digit i, or 0
+-- byte_at ds k      16 times the value of digit 2 k, plus that of digit 2 k + 1
 -- digest_of ds      the digest that 64 lowercase hexadecimal digits stand for, or the refusal
 -- length_refusal e  why a ticket is refused whose length is refused by e
 -- same_below k a b  the first k bytes of two digests are the same
 -- same_ticket t u   all 32 bytes and the length are the same
-use Rattle.std.specs.Prelude.{ℕ, zero, suc, Bool, true, cond, ◌&&◌, List, length, Ok, Err, Result, ◌==◌, nat_lt, slice_index}
-use Rattle.std.specs.Char.{is_ascii_uppercase}
-use Rattle.std.specs.List.{list_any, position_or_len, before_first, after_first}
-use Rattle.hex.specs.Hex.{decode_sized}
-use Rattle.hex.specs.declared.error.FromHexError.{FromHexError}
+use Rattle.std.specs.Prelude.{ℕ, zero, suc, ◌+◌, ◌-◌, ◌*◌, Bool, true, cond, ◌&&◌, List, length, map, Ok, Err, Result, is_ok, ◌==◌, nat_lt, nat_le, slice_index}
+use Rattle.std.specs.List.{list_all, range_with_len, position_or_len, before_first, after_first}
+use Rattle.std.specs.Result.{result_unwrap_or}
 use Rattle.payload.specs.declared.decimals.DecimalError.{DecimalError}
 use Rattle.payload.specs.declared.decimals.DecimalError.TheVariants as decimal
 use Rattle.payload.specs.Decimals.{decimal_of}
@@ -21,12 +23,20 @@ use Rattle.payload.specs.declared.tickets.TicketError.TheVariants.{NoColon, NotD
 abbrev pub ticket_of : List ℕ → ℕ → Ticket
 ticket_of d n = record { digest = d; length = n }
 
-abbrev pub digest_read : Result (List ℕ) FromHexError → Result (List ℕ) TicketError
-digest_read (Ok d) = Ok d
-digest_read (Err e) = Err NotDigest
+abbrev pub hex_digit : ℕ → Result ℕ TicketError
+hex_digit c = cond (nat_le 48 c && nat_le c 57) (Ok (c - 48)) (cond (nat_le 97 c && nat_le c 102) (Ok (c - 97 + 10)) (Err NotDigest))
 
-abbrev pub digest_of : List ℕ → Result (List ℕ) TicketError
-digest_of ds = cond (list_any is_ascii_uppercase ds) (Err NotDigest) (digest_read (decode_sized ds 32))
+abbrev pub is_hex_digit : ℕ → Bool
+is_hex_digit c = is_ok (hex_digit c)
+
+abbrev pub digit_at : List ℕ → ℕ → ℕ
+digit_at ds i = result_unwrap_or (hex_digit (slice_index ds i)) 0
+
+abbrev pub byte_at : List ℕ → ℕ → ℕ
+byte_at ds k = 16 * digit_at ds (2 * k) + digit_at ds (2 * k + 1)
+
+unfoldable pub digest_of : List ℕ → Result (List ℕ) TicketError
+digest_of ds = cond (length ds == 64 && list_all is_hex_digit ds) (Ok (map (byte_at ds) (range_with_len 0 32))) (Err NotDigest)
 
 abbrev pub length_refusal : DecimalError → TicketError
 length_refusal decimal.NotNumber = NotNumber

@@ -1,13 +1,10 @@
-ghost use Rattle.std.specs.Prelude.{◌≡◌, refl};
+ghost use Rattle.std.specs.Prelude.{◌≡◌, ◌<◌, IfOk, refl};
 ghost use Rattle.std.proofs.Common.{sym, ◌∙◌};
-ghost use Rattle.std.specs.Char.{is_ascii_uppercase};
-ghost use Rattle.std.specs.List.{list_any};
-ghost use Rattle.payload.specs.Tickets.{ticket_of, ticket_word, digest_of, length_refusal, same_ticket};
+ghost use Rattle.payload.specs.Tickets.{ticket_of, ticket_word, hex_digit, digest_of, length_refusal, same_ticket};
 ghost use Rattle.payload.specs.Alike.{decides_ticket};
 
 use crate::decimals::{DecimalError, decimal};
 use crate::kinds::Payload;
-use hex::FromHex;
 use std::fmt;
 use std::str::FromStr;
 use thiserror::Error;
@@ -80,20 +77,31 @@ impl FromStr for Ticket {
     }
 }
 
-// `from_hex` takes uppercase digits too, and a log has none.
+// The bytes that 64 lowercase hexadecimal digits stand for, the high digit of each first.
 fn read_digest(text: &str) -> Result<[u8; 32], TicketError>
     ensures { result ≡ digest_of text.now }
 {
-    if has_uppercase(text.as_bytes()) {
+    let digits = text.as_bytes();
+    if digits.len() != 64 {
         return Err(TicketError::NotDigest);
     }
-    <[u8; 32]>::from_hex(text).map_err(|_| TicketError::NotDigest)
+    let mut digest = [0; 32];
+    for (i, byte) in digest.iter_mut().enumerate() {
+        *byte = 16 * read_digit(digits[2 * i])? + read_digit(digits[2 * i + 1])?;
+    }
+    Ok(digest)
 }
 
-fn has_uppercase(text: &[u8]) -> bool
-    ensures { result ≡ list_any is_ascii_uppercase text.now }
+// The value of a lowercase hexadecimal digit.
+fn read_digit(c: u8) -> Result<u8, TicketError>
+    ensures value { result ≡ hex_digit c }
+    ensures bound { IfOk result (λ d. d < 16) }
 {
-    text.iter().any(u8::is_ascii_uppercase)
+    match c {
+        b'0'..=b'9' => Ok(c - b'0'),
+        b'a'..=b'f' => Ok(c - b'a' + 10),
+        _ => Err(TicketError::NotDigest),
+    }
 }
 
 /// Alike exactly when all bytes of the digest and the length are the same.
