@@ -1,7 +1,6 @@
 -- The loops of open, and what its code shows of its result.
-use Rattle.std.proofs.Common.{◌≡◌, ℕ, ◌+◌, ◌%◌, ◌<◌, cond, eqb, List, [], length, set, Some, Ok, Err, Result, sym, ap, ◌∙◌, subst}
+use Rattle.std.proofs.Common.{◌≡◌, ℕ, ◌+◌, ◌%◌, ◌<◌, cond, eqb, List, [], length, set, Some, Ok, sym, ap, ◌∙◌, subst}
 use Rattle.std.specs.List.{slice_get}
-use Rattle.clock.specs.declared.faults.Fault.{Fault}
 use Rattle.clock.specs.Meaning.{Meaning}
 use Rattle.clock.specs.Sound.{Sound}
 use Rattle.history.specs.declared.tables.Berth.{Berth}
@@ -14,7 +13,7 @@ use Rattle.history.proofs.Law.{lawful_open}
 use Rattle.history.proofs.Lookups.{entry}
 use Rattle.history.proofs.WellMade.{opened_made}
 use Rattle.yard_checks.specs.Passing.{passing}
-use Rattle.yard_checks.proofs.Outcomes.{passing_err, passing_ok, refused, accepted}
+use Rattle.yard_checks.proofs.Outcomes.{passing_ok, accepted}
 use Rattle.yard_checks.proofs.Upto.{upto, upto_set}
 
 abbrev pub berth_rule : {Pen C : Type 0} → Meaning Pen C → ℕ → Berth Pen → Berth Pen
@@ -33,10 +32,6 @@ payload_is m payloads i f c p ef ep ec r = λ k. record { clock = ec k; payload 
 module _ {Pen C P : Type 0} (m : Meaning Pen C) (bs : List (Berth Pen)) (cs : List (Record C P)) (payloads : List P) where
   done : Left Pen C P Card
   done = left (Ok (card_of bs payloads)) (opened_berths m bs) (opened_copies m payloads cs) []
-
-  pub open_refused : (e : Fault) (q : Result Card Fault) → Err e ≡ passing (wrong_sizes (card_of bs payloads) bs cs) → q ≡ Err e → left q bs cs [] ≡ open_result m bs cs payloads
-  unfolding done
-  open_refused e q d z = refused bs cs [] done _ e q (passing_err _ e d) z
 
   pub open_done : (bs' : List (Berth Pen)) (cs' : List (Record C P)) (b f : ℕ) → Ok tt ≡ passing (wrong_sizes (card_of bs payloads) bs cs) → bs' ≡ opened_berths m bs → cs' ≡ opened_copies m payloads cs → b ≡ length bs → f ≡ length payloads → left (Ok (sizes b f)) bs' cs' [] ≡ open_result m bs cs payloads
   unfolding done

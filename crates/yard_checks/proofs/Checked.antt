@@ -7,7 +7,6 @@ use Rattle.history.specs.Checks.{wrong_sizes, no_berth}
 use Rattle.history.specs.Settle.{settle_plain}
 use Rattle.history.specs.Fork.{fork_plain}
 use Rattle.history.specs.Pull.{pull_checks}
-use Rattle.history.specs.Report.{report_checks}
 use Rattle.history.proofs.Due.{passed, fit, berth_below, file_below, differ, roomy}
 use Rattle.yard_checks.specs.Passing.{all_pass}
 use Rattle.yard_checks.specs.Ready.{Ready}
@@ -45,6 +44,3 @@ module _ {Pen C P : Type 0} (card : Card) (bs : List (Berth Pen)) (cs : List (Re
 
   pub pull_ready : (bytes : List ℕ) → Ok tt ≡ all_pass (pull_checks card bs cs a b bytes) → Ready card (length bs) (length cs) a b × (a ≡ b → ⊥) × (card.files ≤ length bytes)
   pull_ready bytes p = let q = passed (pull_checks card bs cs a b bytes) (passed_first (pull_checks card bs cs a b bytes) p) in (ready card bs cs a b q.0 q.1.0 q.1.1.0, differ a b q.1.1.1.0, roomy card bytes q.1.1.1.1.1.1.0)
-
-  pub report_ready : (bytes : List ℕ) → Ok tt ≡ all_pass (report_checks card bs cs a b bytes) → Ready card (length bs) (length cs) a b × (card.files ≤ length bytes)
-  report_ready bytes p = let q = passed (report_checks card bs cs a b bytes) (passed_first (report_checks card bs cs a b bytes) p) in (ready card bs cs a b q.0 q.1.0 q.1.1.0, roomy card bytes q.1.1.1.1.1.0)

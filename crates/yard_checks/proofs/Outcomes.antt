@@ -66,11 +66,3 @@ head_some o l e q = ap (λ (z : Option Fault). first (z ∷ l)) q
 
 pub head-none : (o : Option Fault) (l : List (Option Fault)) → o ≡ None → first (o ∷ l) ≡ first l
 head-none o l q = ap (λ (z : Option Fault). first (z ∷ l)) q
-
-pub all_first : (l : List (Option Fault)) (o : Option Fault) → first l ≡ o → all_pass l ≡ passing o
-all_first [] o q = ap passing q
-all_first (Some d ∷ l) o q = ap passing q
-all_first (None ∷ l) o q = all_first l o q
-
-pub all_some : (l : List (Option Fault)) (e : Fault) → first l ≡ Some e → all_pass l ≡ Err e
-all_some l e q = all_first l (Some e) q

@@ -20,12 +20,6 @@ verdict_read m F cs a b f i j x z ei ej ex ez =
     let ez' : slice_get cs (b * F + f) ≡ Some z = subst (λ n. slice_get cs n ≡ Some z) ej ez in
     sym (λ k. against m (clock_in m (ex' k)) (clock_in m (ez' k)))
 
-pub is_not_stale : (v : Verdict) → (v ≡ Stale → ⊥) → is_stale v ≡ false
-is_not_stale Equal n = refl
-is_not_stale Stale n = absurd (n refl)
-is_not_stale Ahead n = refl
-is_not_stale Conflict n = refl
-
 pub is_not_conflict : (v : Verdict) → (v ≡ Conflict → ⊥) → is_conflict v ≡ false
 is_not_conflict Equal n = refl
 is_not_conflict Stale n = refl

@@ -1,5 +1,5 @@
 -- What settle's code shows of its result.
-use Rattle.std.proofs.Common.{◌≡◌, ℕ, ◌+◌, ◌*◌, not, List, [], ◌∷◌, set, Some, None, Ok, Err, Option, Result, sym, ap, ◌∙◌, subst}
+use Rattle.std.proofs.Common.{◌≡◌, ℕ, ◌+◌, ◌*◌, not, List, [], ◌∷◌, set, Some, None, Ok, Err, Result, sym, ap, ◌∙◌, subst}
 use Rattle.std.specs.List.{slice_get}
 use Rattle.clock.specs.declared.causes.Cause.TheVariants.{NoConflict}
 use Rattle.clock.specs.declared.faults.Fault.{Fault}
@@ -10,28 +10,19 @@ use Rattle.clock.specs.Sound.{Sound}
 use Rattle.history.specs.declared.tables.Berth.{Berth}
 use Rattle.history.specs.declared.tables.Record.{Record}
 use Rattle.history.specs.Tables.{Card, pen_in, pen_at, clock_in, clock_at, against, is_conflict}
-use Rattle.history.specs.Checks.{fault, left, unless, placed, no_conflict}
-use Rattle.history.specs.Settle.{settle_plain, settled, met, settle_result}
+use Rattle.history.specs.Checks.{fault, left, placed, no_conflict}
+use Rattle.history.specs.Settle.{settled, met}
 use Rattle.history.proofs.Due.{unplaced}
 use Rattle.yard_editing.specs.Settling.{settle_late}
-use Rattle.yard_checks.specs.Passing.{passing, all_pass, at_place}
+use Rattle.yard_checks.specs.Passing.{passing, at_place}
 use Rattle.yard_checks.proofs.Verdicts.{verdict_read}
-use Rattle.yard_checks.proofs.Outcomes.{refused_first, passed_first, append_some, append_none, head_some, head-none, first_one, passing_err, passing_ok, due_when, none-due_when, refused, accepted}
+use Rattle.yard_checks.proofs.Outcomes.{head-none, first_one, passing_ok, due_when, none-due_when, refused, accepted}
 
 module _ {Pen C P : Type 0} (m : Meaning Pen C) (card : Card) (bs : List (Berth Pen)) (cs : List (Record C P)) (a b f : ℕ) (p : P) where
-  pub settle_checked : (e : Fault) (q : Result (Unit {0}) Fault) → Err e ≡ all_pass (settle_plain card bs cs a b f) → q ≡ Err e → left q bs cs [] ≡ settle_result m card bs cs a b f p
-  settle_checked e q d z = refused bs cs [] (settled m card bs cs a b f p) _ e q (append_some (settle_plain card bs cs a b f) _ e (refused_first (settle_plain card bs cs a b f) e d)) z
-
-  pub settle_goes_on : Ok tt ≡ all_pass (settle_plain card bs cs a b f) → settle_late m card bs cs a b f p ≡ settle_result m card bs cs a b f p
-  settle_goes_on q = ap (λ (o : Option Fault). unless bs cs [] o (settled m card bs cs a b f p)) (sym (append_none (settle_plain card bs cs a b f) _ (passed_first (settle_plain card bs cs a b f) q)))
-
   module _ (i j : ℕ) (x z : Record C P) (ei : i ≡ b * card.files + f) (ej : j ≡ a * card.files + f) (ex : slice_get cs i ≡ Some x) (ez : slice_get cs j ≡ Some z)
       (v : Verdict) (ev : v ≡ against m x.clock z.clock) where
     same_check : due (not (is_conflict v)) (fault NoConflict (Some b) (Some f)) ≡ no_conflict m card.files cs a b f
     same_check = ap (λ (w : Verdict). due (not (is_conflict w)) (fault NoConflict (Some b) (Some f))) (ev ∙ verdict_read m card.files cs b a f i j x z ei ej ex ez)
-
-    pub settle_calm : (e : Fault) (q : Result (Unit {0}) Fault) → Err e ≡ passing (due (not (is_conflict v)) (fault NoConflict (Some b) (Some f))) → q ≡ Err e → left q bs cs [] ≡ settle_late m card bs cs a b f p
-    settle_calm e q d k = refused bs cs [] (settled m card bs cs a b f p) _ e q (head_some _ _ e (sym same_check ∙ passing_err _ e d)) k
 
     module _ (torn : Ok tt ≡ passing (due (not (is_conflict v)) (fault NoConflict (Some b) (Some f)))) (o : Result C Fault) (eo : o ≡ answered (m.join_due x.clock z.clock) (m.joined x.clock z.clock)) where
       ex' : slice_get cs (b * card.files + f) ≡ Some x
@@ -45,9 +36,6 @@ module _ {Pen C P : Type 0} (m : Meaning Pen C) (card : Card) (bs : List (Berth 
 
       later : first (no_conflict m card.files cs a b f ∷ placed (Some b) (Some f) (m.join_due (clock_at m card.files cs b f) (clock_at m card.files cs a f)) ∷ placed (Some b) (Some f) (m.event_due (pen_at m bs b) (met m card.files cs a b f)) ∷ []) ≡ first (placed (Some b) (Some f) (m.join_due (clock_at m card.files cs b f) (clock_at m card.files cs a f)) ∷ placed (Some b) (Some f) (m.event_due (pen_at m bs b) (met m card.files cs a b f)) ∷ [])
       later = head-none _ _ (sym same_check ∙ passing_ok _ torn)
-
-      pub settle_unjoined : (e : Fault) (q : Result (Unit {0}) Fault) → Err e ≡ at_place (Some b) (Some f) o → q ≡ Err e → left q bs cs [] ≡ settle_late m card bs cs a b f p
-      settle_unjoined e q d k = refused bs cs [] (settled m card bs cs a b f p) _ e q (later ∙ head_some _ _ e (due_when (Some b) (Some f) _ (met m card.files cs a b f) e (d ∙ joins))) k
 
       module _ (c : C) (ok : Ok c ≡ at_place (Some b) (Some f) o) where
         joined_is : (placed (Some b) (Some f) (m.join_due (clock_at m card.files cs b f) (clock_at m card.files cs a f)) ≡ None) × (c ≡ met m card.files cs a b f)

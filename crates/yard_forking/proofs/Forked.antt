@@ -13,7 +13,7 @@ use Rattle.history.specs.Checks.{left}
 use Rattle.history.specs.Fork.{fork_plain, forked, fork_result}
 use Rattle.history.proofs.Lookups.{entry, over}
 use Rattle.yard_checks.specs.Passing.{all_pass, at_place}
-use Rattle.yard_checks.proofs.Outcomes.{refused_first, append_some, then_one, due_when, none-due_when, refused, accepted}
+use Rattle.yard_checks.proofs.Outcomes.{then_one, due_when, none-due_when, refused, accepted}
 use Rattle.yard_checks.proofs.Upto.{row_from}
 
 -- a's row, which begins at i and ends at end, copied over b's, which begins at j
@@ -38,9 +38,6 @@ copied F a b i end j cs new some e ei ee ej la lb to below from = row_from F b (
     there k (inr ge) = kept k (λ x. from k x (omega arith))
 
 module _ {Pen C P : Type 0} (m : Meaning Pen C) (card : Card) (bs : List (Berth Pen)) (cs : List (Record C P)) (a b : ℕ) where
-  pub fork_checked : (e : Fault) (q : Result (Unit {0}) Fault) → Err e ≡ all_pass (fork_plain card bs cs a b) → q ≡ Err e → left q bs cs [] ≡ fork_result m card bs cs a b
-  fork_checked e q d z = refused bs cs [] (forked m card bs cs a b) _ e q (append_some (fork_plain card bs cs a b) _ e (refused_first (fork_plain card bs cs a b) e d)) z
-
   module _ (passes : Ok tt ≡ all_pass (fork_plain card bs cs a b)) (x : Berth Pen) (ex : slice_get bs a ≡ Some x) (o : Result (Pen × Pen) Fault) (eo : o ≡ answered (m.fork_due x.pen) (m.halves x.pen)) where
     answers : at_place (Some a) None o ≡ at_place (Some a) None (answered (m.fork_due (pen_at m bs a)) (m.halves (pen_at m bs a)))
     answers = ap (at_place (Some a) None) eo ∙ sym (λ k. at_place (Some a) None (answered (m.fork_due (pen_in m (ex k))) (m.halves (pen_in m (ex k)))))
