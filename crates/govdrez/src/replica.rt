@@ -107,8 +107,6 @@ where
     C::Pen: fmt::Display,
 {
     fn fmt<W: fmt::Write>(&self, f: &mut fmt::Formatter<W>) -> fmt::Result {
-        let pen = self.pen;
-        let clock = self.clock;
-        write!(f, "{pen} {clock}")
+        write!(f, "{} {}", self.pen, self.clock)
     }
 }
