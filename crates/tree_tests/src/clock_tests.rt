@@ -1,4 +1,4 @@
-use crate::made::{FIRST_HALVES, MadeClock, MadePen, full_text};
+use crate::made::{FIRST_HALVES, MadeClock, MadePen, full_text, refused_with};
 use std::test::*;
 
 #[test]
@@ -13,7 +13,7 @@ fn events_fill_and_grow(rt: HostRuntime) -> Result<(), Fail> {
     MadeClock::blank()
         .event(&pen)?
         .shows(rt.alloc(), "(0,0,(0,1,0))")?;
-    assert_eq!(rt; one.event(&MadePen::none()).err(), Some(14));
+    assert_eq!(rt; refused_with(one.event(&MadePen::none())), Some(14));
     Ok(())
 }
 
@@ -27,8 +27,8 @@ fn events_up_to_65535(rt: HostRuntime) -> Result<(), Fail> {
     ] {
         let clock = MadeClock::after(65535, path)?;
         clock.shows(rt.alloc(), text)?;
-        assert_eq!(rt; clock.event(&MadePen::at(path)?).err(), Some(16));
-        assert_eq!(rt; clock.event(&MadePen::none()).err(), Some(14));
+        assert_eq!(rt; refused_with(clock.event(&MadePen::at(path)?)), Some(16));
+        assert_eq!(rt; refused_with(clock.event(&MadePen::none())), Some(14));
     }
     Ok(())
 }
@@ -45,11 +45,14 @@ fn clocks_up_to_63_nodes(rt: HostRuntime) -> Result<(), Fail> {
     for path in FIRST_HALVES {
         let pen = MadePen::at(path)?;
         let (part, rest) = pen.fork()?;
-        assert_eq!(rt; clock.event(&part).err(), Some(15));
-        assert_eq!(rt; clock.event(&rest).err(), Some(15));
+        assert_eq!(rt; refused_with(clock.event(&part)), Some(15));
+        assert_eq!(rt; refused_with(clock.event(&rest)), Some(15));
         assert!(rt; clock.event(&pen)?.covers(&clock));
     }
-    assert_eq!(rt; clock.join(&MadeClock::after(2, "000000")?).err(), Some(15));
+    assert_eq!(rt;
+        refused_with(clock.join(&MadeClock::after(2, "000000")?)),
+        Some(15)
+    );
     assert!(rt; clock.join(&MadeClock::after(1, "000000")?)?.same(&clock));
     Ok(())
 }

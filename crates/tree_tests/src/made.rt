@@ -1,12 +1,14 @@
 ghost use Rattle.clock.specs.Meaning.{Yes};
 ghost use Rattle.tree_clock.specs.Stored.{clock_made, pen_made};
 
+use clock::Fault;
 use std::alloc::Global;
+use std::fmt::Display;
 use std::test::*;
 use tree_clock::{TreeClock, TreePen};
 
-// A pen that is known to be well made, so that a test may pass it on. A refusal
-// is the number of its cause.
+// A pen that is known to be well made, so that a test may pass it on. One generic
+// struct for pens and clocks would need a trait and two impls for its one fact.
 #[derive(Clone, Copy)]
 pub struct MadePen {
     pen: TreePen,
@@ -33,22 +35,18 @@ impl MadePen {
         }
     }
 
-    pub fn fork(&self) -> Result<(MadePen, MadePen), u8> {
-        match self.pen.fork() {
-            Ok((first, second)) => Ok((MadePen { pen: first }, MadePen { pen: second })),
-            Err(fault) => Err(fault.cause.number()),
-        }
+    pub fn fork(&self) -> Result<(MadePen, MadePen), Fault> {
+        let (first, second) = self.pen.fork()?;
+        Ok((MadePen { pen: first }, MadePen { pen: second }))
     }
 
-    pub fn unite(&self, other: &MadePen) -> Result<MadePen, u8> {
-        match self.pen.unite(&other.pen) {
-            Ok(pen) => Ok(MadePen { pen }),
-            Err(fault) => Err(fault.cause.number()),
-        }
+    pub fn unite(&self, other: &MadePen) -> Result<MadePen, Fault> {
+        let pen = self.pen.unite(&other.pen)?;
+        Ok(MadePen { pen })
     }
 
     // The part of the seed at the end of a path: 0 takes the first half, any other the second.
-    pub fn at(path: &str) -> Result<MadePen, u8> {
+    pub fn at(path: &str) -> Result<MadePen, Fault> {
         let mut pen = MadePen::seed();
         for step in path.bytes() {
             let (first, second) = pen.fork()?;
@@ -62,8 +60,7 @@ impl MadePen {
     }
 
     pub fn shows(&self, heap: Global, text: &str) -> Result<(), Fail> {
-        let pen = self.pen;
-        prints(format!(in heap; "{pen}")?, text)
+        prints(heap, &self.pen, text)
     }
 }
 
@@ -74,22 +71,18 @@ impl MadeClock {
         }
     }
 
-    pub fn event(&self, pen: &MadePen) -> Result<MadeClock, u8> {
-        match self.clock.event(&pen.pen) {
-            Ok(clock) => Ok(MadeClock { clock }),
-            Err(fault) => Err(fault.cause.number()),
-        }
+    pub fn event(&self, pen: &MadePen) -> Result<MadeClock, Fault> {
+        let clock = self.clock.event(&pen.pen)?;
+        Ok(MadeClock { clock })
     }
 
-    pub fn join(&self, other: &MadeClock) -> Result<MadeClock, u8> {
-        match self.clock.join(&other.clock) {
-            Ok(clock) => Ok(MadeClock { clock }),
-            Err(fault) => Err(fault.cause.number()),
-        }
+    pub fn join(&self, other: &MadeClock) -> Result<MadeClock, Fault> {
+        let clock = self.clock.join(&other.clock)?;
+        Ok(MadeClock { clock })
     }
 
     // The empty clock after a number of events at the end of a path.
-    pub fn after(count: u32, path: &str) -> Result<MadeClock, u8> {
+    pub fn after(count: u32, path: &str) -> Result<MadeClock, Fault> {
         let pen = MadePen::at(path)?;
         let mut clock = MadeClock::blank();
         for _ in 0..count {
@@ -107,18 +100,22 @@ impl MadeClock {
     }
 
     pub fn judges(&self, heap: Global, other: &MadeClock, verdict: &str) -> Result<(), Fail> {
-        let found = self.clock.compare(&other.clock);
-        prints(format!(in heap; "{found}")?, verdict)
+        prints(heap, &self.clock.compare(&other.clock), verdict)
     }
 
     pub fn shows(&self, heap: Global, text: &str) -> Result<(), Fail> {
-        let clock = self.clock;
-        prints(format!(in heap; "{clock}")?, text)
+        prints(heap, &self.clock, text)
     }
 }
 
-// Fails with what was printed, where that is not the text that was wanted.
-fn prints(printed: String, wanted: &str) -> Result<(), Fail> {
+// The number of the cause with which an answer is refused.
+pub fn refused_with<T: Drop>(answer: Result<T, Fault>) -> Option<u8> {
+    answer.err().map(|fault| u8::from(fault.cause))
+}
+
+// Fails with what a value prints, where that is not the text that was wanted.
+fn prints(heap: Global, value: &impl Display, wanted: &str) -> Result<(), Fail> {
+    let printed = format!(in heap; "{value}")?;
     if printed.as_str() != wanted {
         Err(printed)?;
     }

@@ -1,4 +1,4 @@
-use crate::made::{FIRST_HALVES, MadePen, full_text};
+use crate::made::{FIRST_HALVES, MadePen, full_text, refused_with};
 use std::test::*;
 
 // Halves by the path to them, as they print.
@@ -26,12 +26,12 @@ fn forks_down_to_depth_12(rt: HostRuntime) -> Result<(), Fail> {
     for path in ["00000000000", "11111111111", "01010101010", "11100011100"] {
         let pen = MadePen::at(path)?;
         let (first, second) = pen.fork()?;
-        assert_eq!(rt; first.fork().err(), Some(11));
-        assert_eq!(rt; second.fork().err(), Some(11));
+        assert_eq!(rt; refused_with(first.fork()), Some(11));
+        assert_eq!(rt; refused_with(second.fork()), Some(11));
         assert!(rt; first.unite(&second)?.same(&pen));
         assert!(rt; !first.same(&second) && !first.same(&pen));
     }
-    assert_eq!(rt; MadePen::none().fork().err(), Some(11));
+    assert_eq!(rt; refused_with(MadePen::none().fork()), Some(11));
     Ok(())
 }
 
@@ -49,12 +49,12 @@ fn unites_what_fork_parts(rt: HostRuntime) -> Result<(), Fail> {
         first.unite(&second)?.shows(rt.alloc(), text)?;
         second.unite(&first)?.shows(rt.alloc(), text)?;
         pen.unite(&MadePen::none())?.shows(rt.alloc(), text)?;
-        assert_eq!(rt; pen.unite(&first).err(), Some(12));
-        assert_eq!(rt; second.unite(&pen).err(), Some(12));
+        assert_eq!(rt; refused_with(pen.unite(&first)), Some(12));
+        assert_eq!(rt; refused_with(second.unite(&pen)), Some(12));
     }
     MadePen::none().shows(rt.alloc(), "0")?;
     assert_eq!(rt;
-        MadePen::at("0")?.unite(&MadePen::at("01")?).err(),
+        refused_with(MadePen::at("0")?.unite(&MadePen::at("01")?)),
         Some(12)
     );
     Ok(())
@@ -70,12 +70,12 @@ fn unites_up_to_63_nodes(rt: HostRuntime) -> Result<(), Fail> {
     let text = full_text(rt.alloc(), "", "(1,0)")?;
     pen.shows(rt.alloc(), text.as_str())?;
     for path in ["000010", "000011", "111110", "0111110"] {
-        assert_eq!(rt; pen.unite(&MadePen::at(path)?).err(), Some(13));
+        assert_eq!(rt; refused_with(pen.unite(&MadePen::at(path)?)), Some(13));
     }
     for path in FIRST_HALVES {
         let (part, rest) = MadePen::at(path)?.fork()?;
-        assert_eq!(rt; pen.unite(&part).err(), Some(12));
-        assert_eq!(rt; rest.unite(&pen).err(), Some(12));
+        assert_eq!(rt; refused_with(pen.unite(&part)), Some(12));
+        assert_eq!(rt; refused_with(rest.unite(&pen)), Some(12));
     }
     assert!(rt; pen.unite(&MadePen::at("00001")?).is_ok());
     Ok(())
