@@ -1,3 +1,6 @@
+ghost use Rattle.std.specs.Prelude.{◌≡◌};
+ghost use Rattle.history.specs.Tables.{working_berth};
+
 /// Whether a berth is in use.
 #[derive(Clone, Copy, PartialEq, Eq, Debug)]
 pub enum State {
@@ -13,6 +16,18 @@ pub enum State {
 pub struct Berth<Q> {
     pub state: State,
     pub pen: Q,
+}
+
+impl<Q> Berth<Q> {
+    /// A berth that works with this pen.
+    pub fn working(pen: Q) -> Berth<Q>
+        ensures { result ≡ working_berth pen }
+    {
+        Berth {
+            state: State::Working,
+            pen,
+        }
+    }
 }
 
 /// A copy of a file: its clock, which knows the marks behind it, and its

@@ -4,9 +4,10 @@ ghost use Rattle.history.specs.Checks.{left};
 ghost use Rattle.history.specs.Open.{opened_berths, opened_copies, open_result};
 ghost use Rattle.history.specs.Law.{LawfulOpen};
 
+use crate::blanks::blank_berth;
 use crate::open_card::OpenCard;
 use clock::{Clock, Fault};
-use history::{Berth, Record, Sizes, State};
+use history::{Berth, Record, Sizes};
 use yard_checks::check_sizes;
 
 // Berth 0 works with the seed pen, the others are empty.
@@ -14,15 +15,9 @@ fn opening_berth<C: Clock>(b: usize) -> Berth<C::Pen>
     ensures { result ≡ (if nat_eq b 0 then working_berth C.Clock.meaning.seed else empty_berth C.Clock.meaning) }
 {
     if b == 0 {
-        Berth {
-            state: State::Working,
-            pen: C::seed(),
-        }
+        Berth::working(C::seed())
     } else {
-        Berth {
-            state: State::Empty,
-            pen: C::no_pen(),
-        }
+        blank_berth::<C>()
     }
 }
 

@@ -19,10 +19,8 @@ pub fn refuse_if(is_due: bool, fault: Fault) -> Result<(), Fault>
 pub fn check_sizes<X, Y>(sizes: Sizes, berths: &[X], copies: &[Y]) -> Result<(), Fault>
     ensures { result ≡ passing (wrong_sizes sizes berths.now copies.now) }
 {
-    let fit = 1 <= sizes.berths
-        && sizes.berths <= 16
-        && 1 <= sizes.files
-        && sizes.files <= 32
+    let fit = (1..=16).contains(&sizes.berths)
+        && (1..=32).contains(&sizes.files)
         && berths.len() == sizes.berths
         && copies.len() == sizes.berths * sizes.files;
     refuse_if(!fit, Cause::Sizes.into())

@@ -7,8 +7,8 @@ ghost use Rattle.history.specs.Law.{LawfulAt};
 ghost use Rattle.yard_checks.specs.Passing.{all_pass};
 
 use clock::{Clock, Fault};
-use history::{Berth, Record, Sizes, State};
-use yard_cards::{Card, OpenCard};
+use history::{Berth, Record, Sizes};
+use yard_cards::{Card, OpenCard, blank_berth};
 use yard_checks::{check_berth, check_sizes, check_working};
 
 fn check_drop<Q, C, P>(
@@ -35,10 +35,7 @@ fn drop_berth<C: Clock, P: Copy>(
     ensures { left result berths.new copies.now [] ≡ drop_result C.Clock.meaning sizes berths.old copies.now a }
 {
     check_drop(sizes, berths, copies, a)?;
-    berths[a] = Berth {
-        state: State::Empty,
-        pen: C::no_pen(),
-    };
+    berths[a] = blank_berth::<C>();
     Ok(())
 }
 

@@ -8,7 +8,7 @@ ghost use Rattle.yard_checks.specs.Passing.{all_pass};
 ghost use Rattle.yard_checks.specs.Ready.{Ready};
 
 use clock::{Clock, Fault};
-use history::{Berth, Record, Sizes, State};
+use history::{Berth, Record, Sizes};
 use yard_cards::{Card, OpenCard};
 use yard_checks::{Place, check_berth, check_empty, check_sizes, check_two, check_working, row};
 
@@ -50,14 +50,8 @@ fn fork_berth<C: Clock, P: Copy>(
 {
     check_fork(sizes, berths, copies, a, b)?;
     let halves = C::fork(&berths[a].pen).at_berth(a)?;
-    berths[a] = Berth {
-        state: State::Working,
-        pen: halves.0,
-    };
-    berths[b] = Berth {
-        state: State::Working,
-        pen: halves.1,
-    };
+    berths[a] = Berth::working(halves.0);
+    berths[b] = Berth::working(halves.1);
     copy_files(sizes, copies, a, b);
     Ok(())
 }

@@ -80,10 +80,7 @@ fn hand_over<Q: Copy>(berths: &mut [Berth<Q>], a: usize, b: usize, pen: Q, none:
     requires { (a < length berths.old) × (b < length berths.old) }
     ensures { berths.new ≡ set (set berths.old b (working_berth pen)) a (record { state = Empty; pen = none }) }
 {
-    berths[b] = Berth {
-        state: State::Working,
-        pen,
-    };
+    berths[b] = Berth::working(pen);
     berths[a] = Berth {
         state: State::Empty,
         pen: none,

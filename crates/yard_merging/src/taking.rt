@@ -21,9 +21,8 @@ pub(crate) fn take_newer<C: Clock, P: Copy>(
 {
     let theirs = copies[j];
     let verdict = copies[i].clock.compare(&theirs.clock);
-    match verdict {
-        Verdict::Stale => copies[i] = theirs,
-        _ => {}
+    if verdict == Verdict::Stale {
+        copies[i] = theirs;
     }
     verdict
 }
