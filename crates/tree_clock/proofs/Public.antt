@@ -1,37 +1,109 @@
--- What the public operations share: from a stored tree to its nodes, and from a buffer to an answer.
-use Rattle.std.proofs.Common.{◌≡◌, ℕ, ◌-◌, ◌≤◌, Bool, true, List, length, take, Err, ap, ◌∙◌, arith, length-take}
-use Rattle.clock.specs.declared.causes.Cause.{Cause}
+-- What the public operations on pens and clocks share.
+use Rattle.std.proofs.Common.{◌≡◌, ℕ, ◌≤◌, Bool, true, false, ◌↔◌, Ok, None, Result, sym, ap, ◌∙◌, ap₂, arith, le-ltb}
 use Rattle.clock.specs.declared.faults.Fault.{Fault}
-use Rattle.clock.specs.Answers.{answered, due, fault_of}
-use Rattle.tree_rules.specs.Events.{Event}
-use Rattle.tree_clock.specs.declared.nodes.Node.{Node}
-use Rattle.tree_rules.specs.Ids.{Id}
+use Rattle.clock.specs.declared.verdicts.Verdict.TheVariants.{Equal}
+use Rattle.clock.specs.Answers.{answered}
+use Rattle.clock.specs.Meaning.{Yes}
+use Rattle.clock.specs.Sound.{Within}
+use Rattle.clock.specs.Verdicts.{verdict_of}
+use Rattle.tree_rules.specs.Ids.{Id, id_size, is_off}
+use Rattle.tree_rules.specs.Events.{Event, size, top, Normal}
+use Rattle.tree_rules.specs.Fill.{fill}
+use Rattle.tree_rules.specs.Grow.{grow, event}
+use Rattle.tree_rules.specs.Join.{covers_up}
+use Rattle.tree_rules.specs.Kind.{grown_due, split_due}
 use Rattle.tree_rules.specs.Shape.{shape}
+use Rattle.tree_rules.specs.Split.{half, unsplittable}
+use Rattle.tree_rules.specs.Walk.{fits_up}
+use Rattle.tree_rules.proofs.Covering.{fits_covers}
+use Rattle.tree_rules.proofs.Fills.{size-fill, top-fill}
+use Rattle.tree_rules.proofs.Grows.{size-grow, top-grow}
+use Rattle.tree_rules.proofs.Made.{made_id}
+use Rattle.tree_rules.proofs.PenLaws.{fork}
+use Rattle.tree_rules.proofs.RulesHold.{event_rules}
+use Rattle.tree_rules.proofs.Shapes.{join-shape, size-shape, top-shape, shape_injective}
 use Rattle.tree_clock.specs.declared.clocks.TreeClock.{TreeClock}
 use Rattle.tree_clock.specs.declared.pens.TreePen.{TreePen}
-use Rattle.tree_clock.specs.Flat.{flat, pad, stored, Stands}
-use Rattle.tree_clock.specs.Stored.{pen_of, clock_of}
+use Rattle.tree_clock.specs.Growth.{past_limits}
+use Rattle.tree_clock.specs.Operations.{event_answer, covers_answer, verdict_answer}
+use Rattle.tree_clock.specs.Reading.{clock_facts, clock_is, pen_facts, pen_is, pen_id}
+use Rattle.tree_clock.specs.Stored.{id_of, event_of, pen_of, clock_of, pen_made, clock_made, SameMakes, SameKnows, tree_kind}
+use Rattle.tree_clock.specs.StoredSound.{same_marks, tree_kind_sound}
+use Rattle.tree_clock.specs.Trees.{as_id-shape}
 
--- what `parts` promises
-abbrev pub Parts : List Node → List Node → Type 0
-Parts s t = (e : Event) → s ≡ stored e → t ≡ flat e
+-- an id as the tree that is its shape
+pub ruleset shapes = (join-shape, size-shape, top-shape, as_id-shape)
 
--- an answer is the refusal where a test says yes, and not where it says no
-pub due_yes : {X : Type 0} (t : Bool) (c : Cause) (x : X) (f : Fault) → f ≡ fault_of c → t ≡ true → Err f ≡ answered (due t c) x
-due_yes t c x f e h = rw h (ap Err e)
+pub ruleset fills = (size-fill, top-fill)
 
--- a tree that stands in `out`, as it is stored
-pub store_front : (r o : List Node) (n : ℕ) (e : Event) → r ≡ pad (take (n - 0) o) → Stands o n e → r ≡ stored e
-store_front r o n e p (q, k) =
-    let z : n - 0 ≡ n = omega arith in
-    p ∙ ap pad (rw z q)
+pub ruleset grows = (size-grow, top-grow)
 
-pub front_short : (o : List Node) (n m : ℕ) → n ≤ m → length (take (n - 0) o) ≤ m
-front_short o n m h = omega (arith, length-take (n - 0) o)
+-- the halves of a pen that can be parted fit
+pub half_fits : (p : TreePen) → Yes (pen_made p) → (i : Id) → i ≡ id_of p → false ≡ unsplittable 12 i → (u : Bool) → id_size (half u i) ≤ 63
+half_fits p h i q e u = rw q (fits u)
+  where
+    none-due : split_due (id_of p) ≡ None
+    none-due = rw (sym (e ∙ ap (unsplittable 12) q))
 
--- a whole tree that is stored, as a pen and as a clock
-pub pen_filled : (r s : List Node) (i : Id) → r ≡ pad s → s ≡ flat (shape i) → ◌≡◌ {A = TreePen} (record { nodes = r }) (pen_of i)
-pen_filled r s i p q = let z = p ∙ ap pad q in λ k. record { nodes = z k }
+    fits : (u : Bool) → id_size (half u (id_of p)) ≤ 63
+    fits false = (made_id _ (fork (id_of p) (pen_id p h) none-due).first_made).2
+    fits true = (made_id _ (fork (id_of p) (pen_id p h) none-due).second_made).2
 
-pub clock_filled : (r s : List Node) (e : Event) → r ≡ pad s → s ≡ flat e → ◌≡◌ {A = TreeClock} (record { nodes = r }) (clock_of e)
-clock_filled r s e p q = let z = p ∙ ap pad q in λ k. record { nodes = z k }
+-- two pens, or two clocks, are one where what they hold is
+module _ (p q : TreePen) (h : Yes (pen_made p)) (g : Yes (pen_made q)) (r : Bool) (e : (r ≡ true) ↔ (shape (id_of p) ≡ shape (id_of q))) where
+  pub same-stored : (r ≡ true) ↔ (p ≡ q)
+  same-stored = (λ k. pen_is p h ∙ ap pen_of (shape_injective _ _ (e.0 k)) ∙ sym (pen_is q g), λ k. e.1 (ap (λ (x : TreePen). shape (id_of x)) k))
+
+  pub same_making : (r ≡ true) ↔ SameMakes p q
+  same_making =
+      let m = same_marks.pens p q h g in
+      (λ k. m.0 (same-stored.0 k), λ s. same-stored.1 (m.1 s))
+
+module _ (c d : TreeClock) (h : Yes (clock_made c)) (g : Yes (clock_made d)) where
+  module _ (r : Bool) (e : (r ≡ true) ↔ (event_of c ≡ event_of d)) where
+    pub clock_stored : (r ≡ true) ↔ (c ≡ d)
+    clock_stored = (λ k. clock_is c h ∙ ap clock_of (e.0 k) ∙ sym (clock_is d g), λ k. e.1 (ap event_of k))
+
+    pub clock_knowing : (r ≡ true) ↔ SameKnows c d
+    clock_knowing =
+        let m = same_marks.clocks c d h g in
+        (λ k. m.0 (clock_stored.0 k), λ s. clock_stored.1 (m.1 s))
+
+  pub covers_done : (r : Bool) → r ≡ fits_up (event_of c) 0 (event_of d) 0 → r ≡ covers_answer c d
+  covers_done r p =
+      let x = clock_facts c h in
+      let y = clock_facts d g in
+      p ∙ fits_covers 12 (event_of c) 0 (event_of d) 0 x.1 x.2 y.2
+
+  -- a test that says what covers says
+  pub covers_marks : (r : Bool) → r ≡ covers_answer c d → (r ≡ true) ↔ Within tree_kind d c
+  covers_marks r p =
+      let s = tree_kind_sound.covers c d h g in
+      (λ k. s.0 (sym p ∙ k), λ w. p ∙ s.1 w)
+
+  -- one value is equal
+  pub equal_verdict : c ≡ d → Equal ≡ verdict_answer c d
+  equal_verdict p =
+      let a = (tree_kind_sound.covers c c h h).1 (λ l s k. k) in
+      rw (← p, a)
+
+-- an event, under an id that is not 0
+module _ (p : TreePen) (c : TreeClock) (i : Id) (e : Event) (qi : i ≡ id_of p) (qe : e ≡ event_of c) (k : false ≡ is_off i) where
+  answer_of : answered (grown_due i e) (clock_of (event i e)) ≡ event_answer p c
+  answer_of = ap₂ (λ i e. answered (grown_due i e) (clock_of (event i e))) qi qe
+
+  due_of : (t : Event) → event i e ≡ t → grown_due i e ≡ past_limits t
+  due_of t q = rw (sym k, q)
+
+  pub event_grows : fill i e ≡ e → answered (past_limits (grow i e)) (clock_of (grow i e)) ≡ event_answer p c
+  event_grows q =
+      let x = event_rules.grows i e q in
+      sym (ap₂ (λ d t. answered d (clock_of t)) (due_of (grow i e) x) x) ∙ answer_of
+
+  pub event_fills : (fill i e ≡ e → ⊥) → Normal e → size e ≤ 63 → top e ≤ 65535 → ◌≡◌ {A = Result TreeClock Fault} (Ok (clock_of (fill i e))) (event_answer p c)
+  event_fills q n h m =
+      let x = event_rules.fills i e q in
+      let a = le-ltb 63 (size (fill i e)) (omega (arith, size-fill i e)) in
+      let b = le-ltb 65535 (top (fill i e)) (omega (arith, top-fill i e n)) in
+      let d : grown_due i e ≡ None = due_of (fill i e) x ∙ rw (a, b) in
+      sym (ap₂ (λ d t. answered d (clock_of t)) d x) ∙ answer_of

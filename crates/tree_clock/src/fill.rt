@@ -1,26 +1,23 @@
 ghost use Rattle.std.specs.Prelude.{◌≡◌, ℕ, ◌+◌, ◌<◌, ◌≤◌, max, length};
-ghost use Rattle.tree_rules.specs.Events.{Event, leaf, base as base_of, top, Normal};
-ghost use Rattle.tree_rules.specs.Ids.{Id};
-ghost use Rattle.tree_rules.specs.Shape.{shape};
+ghost use Rattle.tree_rules.specs.Events.{Event, leaf, base as base_of, size as size_of, top, Normal};
 ghost use Rattle.tree_rules.specs.Fill.{filled, fill};
-ghost use Rattle.tree_clock.specs.Flat.{flat, Under, Laid, Stands};
-ghost use Rattle.tree_clock.specs.Sides.{IdForm, NormalForm, Sides, High};
+ghost use Rattle.tree_clock.specs.Flat.{Laid, Stands};
+ghost use Rattle.tree_clock.specs.Sides.{Sides, High};
 
-use crate::nodes::{Node, copy_into, is_one, leaf_into, lower, upper};
+use crate::ids::IdTree;
+use crate::nodes::{Node, leaf_into};
 use crate::norm::close;
+use crate::tree::Tree;
 
 // The largest value of a tree.
-fn highest(e: &[Node]) -> u16
-    requires { Under 0 e.now }
-    ensures { (t : Event) → e.now ≡ flat t → result ≡ top t }
+fn highest(e: &Tree) -> u16
+    requires { top e.now ≤ 65535 }
+    ensures { result ≡ top e.now }
 {
-    let x = e[0];
-    if x.size == 1 {
-        return x.base;
+    if e.is_leaf() {
+        return e.base();
     }
-    let low = highest(lower(e));
-    let high = highest(upper(e));
-    x.base + low.max(high)
+    e.base() + highest(&e.lower()).max(highest(&e.upper()))
 }
 
 // Raises the leaf at `at` to the base of the tree at `by`: one of them is the
@@ -61,20 +58,21 @@ fn fill_close(
 }
 
 // Fills `e` under the id, at the front of `out`; the answer is the size.
-pub(crate) fn fill_into(id: &[Node], e: &[Node], out: &mut [Node]) -> usize
-    requires below { (IdForm id.now) × (NormalForm e.now) }
-    requires room { (length e.now ≤ length out.old) × (length out.old ≤ 1000) }
-    ensures stands { (i : Id) (t : Event) → id.now ≡ flat (shape i) → e.now ≡ flat t → Normal t → Stands out.new result (fill i t) }
+#[tactic(auto, using(crate::proofs::Filling::filling))]
+pub(crate) fn fill_into(id: &IdTree, e: &Tree, out: &mut [Node]) -> usize
+    requires below { Normal e.now × (top e.now ≤ 65535) }
+    requires room { (size_of e.now ≤ length out.old) × (length out.old ≤ 1000) }
+    ensures stands { Stands out.new result (fill id.now e.now) }
     ensures long { length out.new ≡ length out.old }
 {
-    if is_one(id) {
+    if id.is_one() {
         return leaf_into(highest(e), out);
     }
-    if id[0].size == 1 || e[0].size == 1 {
-        return copy_into(e, out);
+    if id.is_leaf() || e.is_leaf() {
+        return e.put(out);
     }
-    let (l, r) = (lower(id), upper(id));
-    let mid = 1 + fill_into(l, lower(e), &mut out[1..]);
-    let end = mid + fill_into(r, upper(e), &mut out[mid..]);
-    fill_close(out, e[0].base, mid, end, is_one(l), is_one(r))
+    let (l, r) = (id.lower(), id.upper());
+    let mid = 1 + fill_into(&l, &e.lower(), &mut out[1..]);
+    let end = mid + fill_into(&r, &e.upper(), &mut out[mid..]);
+    fill_close(out, e.base(), mid, end, l.is_one(), r.is_one())
 }
