@@ -1,5 +1,5 @@
 -- How `fill_into` lays out a filled tree.
-use Rattle.std.proofs.Common.{◌≡◌, ℕ, ◌+◌, ◌<◌, ◌≤◌, max, Bool, true, false, List, ◌∷◌, length, get_or, set, sym, refl, ap, ◌∙◌, arith}
+use Rattle.std.proofs.Common.{◌≡◌, ℕ, ◌+◌, ◌≤◌, max, Bool, true, false, List, ◌∷◌, get_or, set, refl, ap, ◌∙◌, arith}
 use Rattle.std.proofs.lemmas.List.{set_at}
 use Rattle.tree_rules.specs.Ids.{Id, off, on, pair, is_on}
 use Rattle.tree_rules.specs.Events.{Event, leaf, node, size, base, top, lo, hi, norm, Normal}
@@ -20,14 +20,6 @@ use Rattle.tree_clock.proofs.Joining.{branch_sizes}
 module _ (o : List Node) (at by m : ℕ) (is : m ≡ max (get_or o at filler).base (get_or o by filler).base) where
   abbrev raised : List Node
   raised = set o at (record { base = m; size = (get_or o at filler).size })
-
-  pub raise_lower : (end c : ℕ) (r : Event) → at ≡ 1 → Laid o by end (leaf c) r → Laid raised by end (leaf (max c (base r))) r
-  raise_lower end c r h (x, rest, p, j, k) =
-      let w : Laid o by end (leaf c) r = (x, rest, p, j, k) in
-      let X : get_or o at filler ≡ record { base = c; size = 1 } = rw h (at_one o by end (leaf c) r w) in
-      let Y : (get_or o by filler).base ≡ base r = ap (λ y. y.base) (at_mid o by end (leaf c) r w) ∙ base-flat r in
-      let z : m ≡ max c (base r) = is ∙ rw (X, Y) in
-      (x, rest, rw (X, z, p, h), j, k)
 
   pub raise_upper : (end c : ℕ) (l : Event) → by ≡ 1 → Laid o at end l (leaf c) → Laid raised at end l (leaf (max c (base l)))
   raise_upper end c l h (x, rest, p, j, k) =
@@ -97,22 +89,24 @@ fill_step (pair l r) (leaf n) p q m = absurd (clash q)
 fill_step (pair l r) (node n a b) p q m = same_tops (is_on l) (is_on r) n a b (fill l a) (fill r b) (top-fill l a m.2) (top-fill r b m.3)
 
 -- l and r are the sides, a and b the branches, and n the base
-module _ (i : Id) (t : Event) (N : Normal t) (l r : Id) (a b : Event) (n : ℕ) (il : l ≡ id_lo i) (ir : r ≡ id_hi i) (ta : a ≡ lo t) (tb : b ≡ hi t) (nt : n ≡ base t) (x y : Bool) (xl : x ≡ is_on l) (yr : y ≡ is_on r) (o : List Node) (mid end : ℕ) (w : Laid o mid end (fill l a) (fill r b)) where
+module _ (i : Id) (t : Event) (N : Normal t) (l r : Id) (a b : Event) (n : ℕ) (il : l ≡ id_lo i) (ir : r ≡ id_hi i) (ta : a ≡ lo t) (tb : b ≡ hi t) (nt : n ≡ base t) (o : List Node) (mid end : ℕ) (w : Laid o mid end (fill l a) (fill r b)) where
   normal_a : Normal a
   normal_a = rw ta (normal-lo t N)
 
   normal_b : Normal b
   normal_b = rw tb (normal-hi t N)
 
-  fill_sides : Sides o mid end x y (fill l a) (fill r b)
-  fill_sides = (w, normal-fill l a normal_a, normal-fill r b normal_b, λ z. one_size l a (sym xl ∙ z), λ z. one_size r b (sym yr ∙ z))
+  fill_sides : Sides o mid end (is_on (id_lo i)) (is_on (id_hi i)) (fill l a) (fill r b)
+  fill_sides = (w, normal-fill l a normal_a, normal-fill r b normal_b, λ z. one_size l a (ap is_on il ∙ z), λ z. one_size r b (ap is_on ir ∙ z))
 
-  pub fill_given : top t ≤ 65535 → size t ≤ 1000 → (L R : Event) × Sides o mid end x y L R × High n L R × (end ≤ 65535)
+  pub fill_given : top t ≤ 65535 → size t ≤ 1000 → (L R : Event) × Sides o mid end (is_on (id_lo i)) (is_on (id_hi i)) L R × High n L R × (end ≤ 65535)
   fill_given h m =
       let p : top a + n ≤ top t = rw (ta, nt) (omega (arith, top-lo t)) in
       let q : top b + n ≤ top t = rw (tb, nt) (omega (arith, top-hi t)) in
       let s : size a + size b ≤ 1001 = rw (ta, tb) (omega (arith, branch_sizes t)) in
       (_, _, fill_sides, omega (arith, top-fill l a normal_a, top-fill r b normal_b), omega (arith, w.3, w.4, size-fill l a, size-fill r b))
 
-  pub fills : false ≡ is_leaf (shape i) → false ≡ is_leaf t → (s : List Node) (m : ℕ) → ((L R : Event) → Sides o mid end x y L R → Stands s m (filled x y n L R L R)) → Stands s m (fill i t)
-  fills p q s m z = rw (fill_step i t p q N, ← il, ← ir, ← ta, ← tb, ← nt, ← xl, ← yr) (z _ _ fill_sides)
+  pub fills : false ≡ is_leaf (shape i) → false ≡ is_leaf t → (s : List Node) (m : ℕ) → ((L R : Event) → Sides o mid end (is_on (id_lo i)) (is_on (id_hi i)) L R → Stands s m (filled (is_on (id_lo i)) (is_on (id_hi i)) n L R L R)) → Stands s m (fill i t)
+  fills p q s m z =
+      let y : filled (is_on (id_lo i)) (is_on (id_hi i)) (base t) (fill (id_lo i) (lo t)) (fill (id_hi i) (hi t)) (fill (id_lo i) (lo t)) (fill (id_hi i) (hi t)) ≡ filled (is_on (id_lo i)) (is_on (id_hi i)) n (fill l a) (fill r b) (fill l a) (fill r b) = rw (il, ir, ta, tb, nt) in
+      rw (fill_step i t p q N, y) (z _ _ fill_sides)

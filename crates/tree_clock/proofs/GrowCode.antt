@@ -1,5 +1,5 @@
 -- How the grown tree is laid out.
-use Rattle.std.proofs.Common.{◌≡◌, ℕ, ◌+◌, ◌-◌, ◌≤◌, Bool, true, false, cond, refl, ap, ◌∙◌, arith}
+use Rattle.std.proofs.Common.{◌≡◌, ℕ, ◌+◌, ◌-◌, ◌≤◌, Bool, true, false, cond, refl, ap, arith}
 use Rattle.tree_rules.specs.Ids.{Id, off, on, pair, is_off, id_depth, NormalId}
 use Rattle.tree_rules.specs.Events.{Event, leaf, node, base, size, top, lo, hi}
 use Rattle.tree_rules.specs.Shape.{shape}
@@ -58,28 +58,29 @@ upper_marked (pair l r) n h cl cr p = marked (is_off l) (is_off r) n.0 p
     marked false true d p = absurd (clash p)
     marked x false d p = refl
 
--- l and r are the sides of a pair, a and b the branches, and n the base
-module _ (i : Id) (e : Event) (k : is_leaf (shape i) ≡ false) (l r : Id) (a b : Event) (n : ℕ) (il : l ≡ id_lo i) (ir : r ≡ id_hi i) (ea : a ≡ lo e) (eb : b ≡ hi e) (en : n ≡ base e) (x y : Bool) (cl cr : ℕ) (xl : x ≡ is_off l) (yr : y ≡ is_off r) (p : cl ≡ cost l a) (q : cr ≡ cost r b) where
-  turned : lowers x y cl cr ≡ turn i e
-  turned = rw (xl, yr, p, q, il, ir, ea, eb)
+-- n is the base, and cl and cr what growing the branches costs
+module _ (i : Id) (e : Event) (k : is_leaf (shape i) ≡ false) (n : ℕ) (en : n ≡ base e) (cl cr : ℕ) (p : cl ≡ cost (id_lo i) (lo e)) (q : cr ≡ cost (id_hi i) (hi e)) where
+  turned : lowers (is_off (id_lo i)) (is_off (id_hi i)) cl cr ≡ turn i e
+  turned = rw (p, q)
 
-  pub lower_grown : true ≡ lowers x y cl cr → grow i e ≡ node n (grow l a) b
-  lower_grown h = rw (grow_more i e k, ← turned, ← h, il, ea, eb, en)
+  pub lower_grown : true ≡ lowers (is_off (id_lo i)) (is_off (id_hi i)) cl cr → (l : Id) (a b : Event) → l ≡ id_lo i → a ≡ lo e → b ≡ hi e → grow i e ≡ node n (grow l a) b
+  lower_grown h l a b il ea eb = rw (grow_more i e k, ← turned, ← h, il, ea, eb, en)
 
-  pub upper_grown : false ≡ lowers x y cl cr → grow i e ≡ node n a (grow r b)
-  upper_grown h = rw (grow_more i e k, ← turned, ← h, ir, ea, eb, en)
+  module _ (h : false ≡ lowers (is_off (id_lo i)) (is_off (id_hi i)) cl cr) (r : Id) (a b : Event) (ir : r ≡ id_hi i) (ea : a ≡ lo e) (eb : b ≡ hi e) where
+    pub upper_grown : grow i e ≡ node n a (grow r b)
+    upper_grown = rw (grow_more i e k, ← turned, ← h, ir, ea, eb, en)
 
-  pub upper_growth : false ≡ lowers x y cl cr → (m up c c' : ℕ) → Growth m up i e c → c' ≡ c - (1 + size a) → Growth (m - 1) (up + n) r b c'
-  upper_growth h m up c c' G z =
-      let d : 1 + id_depth r ≤ id_depth i = rw ir (id_hi_depth i k) in
-      let t : n + top b ≤ top e = rw (en, eb) (omega (arith, top-hi e)) in
-      record {
-        normal = rw ir (id_hi_normal i G.normal);
-        marks = rw ir (upper_marked i G.normal k _ _ (h ∙ turned));
-        deep = omega (arith, G.deep);
-        under = omega (arith, G.under);
-        room = omega (arith, ap size (upper_grown h), G.room);
-        short = omega (arith, G.short);
-      }
+    pub upper_growth : (m up c c' : ℕ) → Growth m up i e c → c' ≡ c - (1 + size a) → Growth (m - 1) (up + n) r b c'
+    upper_growth m up c c' G z =
+        let d : 1 + id_depth r ≤ id_depth i = rw ir (id_hi_depth i k) in
+        let t : n + top b ≤ top e = rw (en, eb) (omega (arith, top-hi e)) in
+        record {
+          normal = rw ir (id_hi_normal i G.normal);
+          marks = rw ir (upper_marked i G.normal k _ _ h);
+          deep = omega (arith, G.deep);
+          under = omega (arith, G.under);
+          room = omega (arith, ap size upper_grown, G.room);
+          short = omega (arith, G.short);
+        }
 
 pub ruleset growing = (from_long, written_long, grow_one, reached_one, grow_more, reached_more, size_pos, top-lo, top-hi)

@@ -1,5 +1,5 @@
 -- What growing costs, as `growth_cost` finds it.
-use Rattle.std.proofs.Common.{◌≡◌, ℕ, ◌+◌, Bool, true, false, cond, refl}
+use Rattle.std.proofs.Common.{◌≡◌, ◌+◌, true, false, cond, refl}
 use Rattle.tree_rules.specs.Ids.{Id, off, on, pair, is_off}
 use Rattle.tree_rules.specs.Events.{Event, lo, hi}
 use Rattle.tree_rules.specs.Shape.{shape}

@@ -3,7 +3,7 @@ use Rattle.std.proofs.Common.{◌≡◌, ℕ, ◌+◌, ◌-◌, ◌<◌, ◌≤�
 use native.Mathlib.Decide.{dec_lt}
 use Rattle.tree_rules.specs.Ids.{Id, off, on, pair, is_off, id_size, id_depth, NormalId}
 use Rattle.tree_rules.specs.Shape.{shape}
-use Rattle.tree_rules.specs.Split.{half, half_pair, unsplittable}
+use Rattle.tree_rules.specs.Split.{half, unsplittable}
 use Rattle.tree_rules.proofs.Norms.{clash, clash'}
 use Rattle.tree_rules.proofs.Shapes.{size-shape}
 use Rattle.tree_clock.specs.Trees.{is_leaf, id_lo, id_hi}
@@ -39,12 +39,6 @@ module _ (l r : Id) (n : ℕ) (N : NormalId (pair l r)) (d : id_depth (pair l r)
       let p = deeper n (id_depth (half false l)) (omega arith) in
       let q = deeper n (id_depth (half true l)) (omega arith) in
       rw (e, f, p.1, q.1)
-
-  off_neither : is_off l ≡ false → is_off r ≡ false → unsplittable n (pair l r) ≡ false
-  off_neither e f =
-      let p = le-ltb n (1 + max (id_depth l) 0) (omega arith) in
-      let q = le-ltb n (1 + max 0 (id_depth r)) (omega arith) in
-      rw (e, f, p, q)
 
 -- a pair of which one side is 0
 module _ (i l r : Id) (n : ℕ) (k : false ≡ is_leaf (shape i)) (a : l ≡ id_lo i) (b : r ≡ id_hi i) where

@@ -1,5 +1,5 @@
 -- A tree as it is stored.
-use Rattle.std.proofs.Common.{◌≡◌, ℕ, ◌+◌, ◌-◌, ◌<◌, ◌≤◌, List, [], ◌∷◌, ◌++◌, length, take, drop, set, replicate, sym, refl, ap, ◌∙◌, ap₂, append_assoc, arith, length-append, take_at, take-append-drop}
+use Rattle.std.proofs.Common.{◌≡◌, ℕ, ◌+◌, ◌-◌, ◌<◌, List, [], ◌∷◌, ◌++◌, length, take, drop, set, replicate, sym, refl, ap, ◌∙◌, ap₂, append_assoc, arith, take_at, take-append-drop}
 use Rattle.std.proofs.lemmas.List.{drop-replicate}
 use Rattle.tree_rules.specs.Events.{Event, leaf, node, size}
 use Rattle.tree_clock.specs.declared.nodes.Node.{Node}

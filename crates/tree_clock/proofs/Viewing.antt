@@ -1,5 +1,5 @@
 -- What `Tree` reads of the nodes behind it.
-use Rattle.std.proofs.Common.{◌≡◌, ◌≢◌, ℕ, ◌+◌, ◌-◌, ◌<◌, ◌≤◌, Bool, true, false, ◌↔◌, List, ◌++◌, length, take, drop, ◌==◌, refl, sym, ap, ◌∙◌, ap₂, arith, length-append, length-drop, length-take, take_at, drop_at, ne_eqb}
+use Rattle.std.proofs.Common.{◌≡◌, ◌≢◌, ℕ, ◌+◌, ◌-◌, ◌<◌, ◌≤◌, Bool, true, false, ◌↔◌, List, ◌++◌, length, take, drop, ◌==◌, refl, sym, ap, ◌∙◌, ap₂, arith, length-take, take_at, drop_at, ne_eqb}
 use borrow.Rule.Slice.PartMut.{post_of}
 use Rattle.std.specs.Bool.{Decides}
 use Rattle.std.specs.Ordering.{eq_of_both, on}
@@ -40,48 +40,33 @@ module _ (s : List Node) (e : Event) (i : s ≡ flat (tree_of s)) (v : tree_of s
   pub lies_long : length s ≡ size e
   lies_long = long s e lies
 
-  module _ (t : Bool) (q : t ≡ is_leaf e) where
-    pub leaf_lo : t ≡ true → leaf 0 ≡ lo e
-    leaf_lo k = lo_leaf e (sym q ∙ k)
-      where
-        lo_leaf : (e : Event) → is_leaf e ≡ true → leaf 0 ≡ lo e
-        lo_leaf (leaf n) h = refl
-        lo_leaf (node n l r) h = absurd (false≢true h)
+  module _ (t : Bool) (q : t ≡ is_leaf e) (k : t ≡ false) where
+    more : (first s).size ≢ 1
+    more p = false≢true (sym k ∙ q ∙ sym lies_leaf ∙ eq-eqb _ 1 p)
 
-    pub leaf_hi : t ≡ true → leaf 0 ≡ hi e
-    leaf_hi k = hi_leaf e (sym q ∙ k)
-      where
-        hi_leaf : (e : Event) → is_leaf e ≡ true → leaf 0 ≡ hi e
-        hi_leaf (leaf n) h = refl
-        hi_leaf (node n l r) h = absurd (false≢true h)
+    pub branch_some : 1 < length s
+    branch_some = tall s (e, lies) more
 
-    module _ (k : t ≡ false) where
-      more : (first s).size ≢ 1
-      more p = false≢true (sym k ∙ q ∙ sym lies_leaf ∙ eq-eqb _ 1 p)
+    pub branch_within : 1 + (second s).size ≤ length s
+    branch_within = within s (e, lies) more
 
-      pub branch_some : 1 < length s
-      branch_some = tall s (e, lies) more
+    abbrev low : List Node
+    low = take (1 + (second s).size - 1) (drop 1 s)
 
-      pub branch_within : 1 + (second s).size ≤ length s
-      branch_within = within s (e, lies) more
+    abbrev high : List Node
+    high = take (length s - (1 + (second s).size)) (drop (1 + (second s).size) s)
 
-      abbrev low : List Node
-      low = take (1 + (second s).size - 1) (drop 1 s)
+    pub low_whole : low ≡ flat (tree_of low)
+    low_whole = whole low (lo e) (lo_some s more e lies)
 
-      abbrev high : List Node
-      high = take (length s - (1 + (second s).size)) (drop (1 + (second s).size) s)
+    pub low_holds : tree_of low ≡ lo e
+    low_holds = holds low (lo e) (lo_some s more e lies)
 
-      pub low_whole : low ≡ flat (tree_of low)
-      low_whole = whole low (lo e) (lo_some s more e lies)
+    pub high_whole : high ≡ flat (tree_of high)
+    high_whole = whole high (hi e) (hi_some s more e lies)
 
-      pub low_holds : tree_of low ≡ lo e
-      low_holds = holds low (lo e) (lo_some s more e lies)
-
-      pub high_whole : high ≡ flat (tree_of high)
-      high_whole = whole high (hi e) (hi_some s more e lies)
-
-      pub high_holds : tree_of high ≡ hi e
-      high_holds = holds high (hi e) (hi_some s more e lies)
+    pub high_holds : tree_of high ≡ hi e
+    high_holds = holds high (hi e) (hi_some s more e lies)
 
 -- two trees are one where their nodes are
 pub tells_equal : (s t : List Node) (e f : Event) → s ≡ flat e → t ≡ flat f → (r : Bool) → r ≡ pointwise (eq_of_both (on (λ (v : Node). v.base) eqb) (on (λ (v : Node). v.size) eqb)) s t → (r ≡ true) ↔ (e ≡ f)

@@ -1,12 +1,11 @@
 -- A stored tree reads back as it was, and what a well-made clock and a well-made pen hold.
-use Rattle.std.specs.Prelude.{◌≡◌, ℕ, zero, suc, ◌+◌, ◌<◌, ◌≤◌, true, List, [], ◌∷◌, ◌++◌, take, drop, ◌==◌, refl}
-use Rattle.std.proofs.Common.{sym, ap, ap₂, ◌∙◌, arith, take_at, drop_at, eqb-true, eq-eqb, ne_eqb}
-use Rattle.std.proofs.lemmas.Bool.{and_parts, and_from, cond-false, false≢true}
-use Rattle.tree_rules.specs.Ids.{Id, off, on, pair, id_size, id_depth, NormalId}
-use Rattle.tree_rules.specs.Events.{Event, leaf, node, size, depth, top, Normal}
+use Rattle.std.specs.Prelude.{◌≡◌, ◌≤◌, true, List, [], ◌∷◌, take, ◌==◌, refl}
+use Rattle.std.proofs.Common.{sym, ap, ap₂, ◌∙◌, arith, take_at, eqb-true, eq-eqb}
+use Rattle.std.proofs.lemmas.Bool.{and_parts, and_from, false≢true}
+use Rattle.tree_rules.specs.Ids.{Id, id_size, id_depth, NormalId}
+use Rattle.tree_rules.specs.Events.{Event, size, depth, top, Normal}
 use Rattle.tree_rules.specs.Shape.{shape}
 use Rattle.tree_rules.specs.Kind.{id_made, event_made}
-use Rattle.tree_rules.proofs.Norms.{size_pos}
 use Rattle.tree_rules.proofs.Made.{made_event, made_id}
 use Rattle.tree_rules.proofs.Shapes.{depth-shape}
 use Rattle.tree_clock.specs.declared.nodes.Node.{Node}

@@ -6,16 +6,16 @@
 -- clock_made, pen_made   the tree or id is in normal form and within the limits, and stored in the one way that Flat says
 -- tree_kind              the kind: the rules of interval tree clocks, carried over to stored trees
 -- SameMarks             well-made values are equal exactly where their marks are
-use Rattle.std.specs.Prelude.{◌≡◌, ℕ, zero, suc, Bool, true, false, cond, ◌&&◌, ◌↔◌, List, [], ◌∷◌, take, drop, ◌==◌, slice_index_or}
+use Rattle.std.specs.Prelude.{◌≡◌, ℕ, Bool, true, false, ◌&&◌, ◌↔◌, List, [], ◌∷◌, ◌==◌}
 use Rattle.clock.specs.Meaning.{Meaning, Yes}
-use Rattle.tree_rules.specs.Ids.{Id, off, on, pair}
-use Rattle.tree_rules.specs.Events.{Event, leaf, node}
+use Rattle.tree_rules.specs.Ids.{Id}
+use Rattle.tree_rules.specs.Events.{Event}
 use Rattle.tree_rules.specs.Shape.{shape}
 use Rattle.tree_rules.specs.Kind.{id_made, event_made, tree}
 use Rattle.tree_clock.specs.declared.nodes.Node.{Node}
 use Rattle.tree_clock.specs.declared.pens.TreePen.{TreePen}
 use Rattle.tree_clock.specs.declared.clocks.TreeClock.{TreeClock}
-use Rattle.tree_clock.specs.Flat.{filler, stored}
+use Rattle.tree_clock.specs.Flat.{stored}
 use Rattle.tree_clock.specs.Trees.{held, as_id}
 use Rattle.tree_clock.specs.Carried.{carried}
 

@@ -54,7 +54,7 @@ impl TreeClock {
         ensures marks { IfOk result (λ c. Joined tree_kind self.now other.now c) }
     {
         let mut out: [Node; ROOM] = fillers();
-        let n = join_into(&self.tree(), 0, &other.tree(), 0, &mut out);
+        let n = join_into(self.tree(), 0, other.tree(), 0, &mut out);
         if n > MOST_NODES {
             return Err(Cause::ClockTooLarge.into());
         }
@@ -67,7 +67,7 @@ impl TreeClock {
         ensures result { result ≡ covers_answer self.now other.now }
         ensures marks { (result ≡ true) ↔ Within tree_kind other.now self.now }
     {
-        covers_from(&self.tree(), 0, &other.tree(), 0)
+        covers_from(self.tree(), 0, other.tree(), 0)
     }
 
     /// Whether two clocks are one value, which is so exactly where they know
@@ -77,7 +77,7 @@ impl TreeClock {
         ensures stored { (result ≡ true) ↔ (self.now ≡ other.now) }
         ensures marks { (result ≡ true) ↔ SameKnows self.now other.now }
     {
-        self.tree().is(&other.tree())
+        self.tree().same(&other.tree())
     }
 
     /// The verdict on this clock against the other.

@@ -6,9 +6,9 @@ use crate::tree::Tree;
 
 // Whether `a` plus `up_a` has at least the sum of `b` plus `up_b` at each node
 // of `b`, root first. It stops at the first node whose sum is above.
-pub(crate) fn covers_from(a: &Tree, up_a: u16, b: &Tree, up_b: u16) -> bool
-    requires { (up_a + top a.now ≤ 65535) × (up_b + top b.now ≤ 65535) }
-    ensures { result ≡ fits_up a.now up_a b.now up_b }
+pub(crate) fn covers_from(a: Tree, up_a: u16, b: Tree, up_b: u16) -> bool
+    requires { (up_a + top a ≤ 65535) × (up_b + top b ≤ 65535) }
+    ensures { result ≡ fits_up a.entry up_a b.entry up_b }
 {
     let at_a = up_a + a.base();
     let at_b = up_b + b.base();
@@ -18,6 +18,5 @@ pub(crate) fn covers_from(a: &Tree, up_a: u16, b: &Tree, up_b: u16) -> bool
     if b.is_leaf() {
         return true;
     }
-    covers_from(&a.lower(), at_a, &b.lower(), at_b)
-        && covers_from(&a.upper(), at_a, &b.upper(), at_b)
+    covers_from(a.lower(), at_a, b.lower(), at_b) && covers_from(a.upper(), at_a, b.upper(), at_b)
 }

@@ -29,15 +29,14 @@ impl TreeClock {
         ensures result { result ≡ event_answer pen.now self.now }
         ensures marks { IfOk result (λ c. Evented tree_kind pen.now self.now c) }
     {
-        let (id, e) = (pen.id(), self.tree());
-        if id.is_zero() {
+        if pen.id().is_zero() {
             return Err(Cause::PenSpent.into());
         }
         let mut out: [Node; ROOM] = fillers();
-        let n = fill_into(&id, &e, &mut out);
+        let n = fill_into(pen.id(), self.tree(), &mut out);
         let filled = Tree::front(&out, n);
-        if filled.is(&e) {
-            return grown(&id, &e);
+        if filled.same(&self.tree()) {
+            return grown(pen.id(), self.tree());
         }
         Ok(TreeClock::of(&filled))
     }
@@ -45,10 +44,10 @@ impl TreeClock {
 
 // The tree grown under the id, or its refusal.
 #[tactic(auto, using(crate::proofs::Public::grows))]
-fn grown(id: &IdTree, e: &Tree) -> Result<TreeClock, Fault>
-    requires id { NormalId id.now × (id_depth id.now ≤ 12) × (is_off id.now ≡ false) }
-    requires tree { (size_of e.now ≤ 63) × (top e.now ≤ 65535) }
-    ensures { result ≡ answered (past_limits (grow_of id.now e.now)) (clock_of (grow_of id.now e.now)) }
+fn grown(id: IdTree, e: Tree) -> Result<TreeClock, Fault>
+    requires id { NormalId id × (id_depth id ≤ 12) × (is_off id ≡ false) }
+    requires tree { (size_of e ≤ 63) × (top e ≤ 65535) }
+    ensures { result ≡ answered (past_limits (grow_of id.entry e.entry)) (clock_of (grow_of id.entry e.entry)) }
 {
     let mut out: [Node; ROOM] = fillers();
     let (n, value) = grow_leaf(id, e, 0, 12, &mut out);

@@ -1,24 +1,24 @@
 ghost use Rattle.std.specs.Prelude.{◌≡◌, ◌*◌, ◌≤◌, false, length};
 ghost use Rattle.tree_rules.specs.Events.{size as size_of};
-ghost use Rattle.tree_rules.specs.Ids.{id_depth};
+ghost use Rattle.tree_rules.specs.Ids.{id_depth, is_off};
 ghost use Rattle.tree_rules.specs.Shape.{shape};
 ghost use Rattle.tree_rules.specs.Grow.{lowers, cost, grow};
 ghost use Rattle.tree_rules.specs.Reach.{reached};
 ghost use Rattle.tree_clock.specs.Flat.{Stands};
 ghost use Rattle.tree_clock.specs.Growth.{Growth};
-ghost use Rattle.tree_clock.specs.Trees.{is_leaf as leaf_test};
+ghost use Rattle.tree_clock.specs.Trees.{is_leaf as leaf_test, id_lo, id_hi};
 
 use crate::ids::IdTree;
 use crate::nodes::{Node, leaf_into, root_into};
 use crate::tree::Tree;
 
 // Whether the lower branch grows: not under (0,r), under (l,0), and else where it costs less.
-fn lower_grows(l_zero: bool, r_zero: bool, low: u32, high: u32) -> bool
-    ensures { result ≡ lowers l_zero r_zero low high }
+fn lower_grows(id: &IdTree, low: u32, high: u32) -> bool
+    ensures { result ≡ lowers (is_off (id_lo id.now)) (is_off (id_hi id.now)) low high }
 {
-    if l_zero {
+    if id.lower().is_zero() {
         false
-    } else if r_zero {
+    } else if id.upper().is_zero() {
         true
     } else {
         low < high
@@ -27,18 +27,17 @@ fn lower_grows(l_zero: bool, r_zero: bool, low: u32, high: u32) -> bool
 
 // What growing `e` under the id costs.
 #[tactic(auto, using(crate::proofs::GrowCost::costs))]
-pub(crate) fn growth_cost(id: &IdTree, e: &Tree, left: u8) -> u32
-    requires { id_depth id.now ≤ left }
-    ensures cost { result ≡ cost id.now e.now }
+pub(crate) fn growth_cost(id: IdTree, e: Tree, left: u8) -> u32
+    requires { id_depth id ≤ left }
+    ensures cost { result ≡ cost id.entry e.entry }
     ensures most { result ≤ 1001 * left }
 {
     if id.is_leaf() {
         return 0;
     }
-    let (l, r) = (id.lower(), id.upper());
-    let low = growth_cost(&l, &e.lower(), left - 1);
-    let high = growth_cost(&r, &e.upper(), left - 1);
-    let least = if lower_grows(l.is_zero(), r.is_zero(), low, high) {
+    let low = growth_cost(id.lower(), e.lower(), left - 1);
+    let high = growth_cost(id.upper(), e.upper(), left - 1);
+    let least = if lower_grows(&id, low, high) {
         low
     } else {
         high
@@ -52,11 +51,11 @@ pub(crate) fn growth_cost(id: &IdTree, e: &Tree, left: u8) -> u32
 // above; at 65,536 that value is past the limit, and the tree does not stand in `out`.
 #[cycle(grow_leaf_grow_pair)]
 #[tactic(auto, using(crate::proofs::GrowCode::growing))]
-pub(crate) fn grow_leaf(id: &IdTree, e: &Tree, up: u32, left: u8, out: &mut [Node]) -> (usize, u32)
-    requires { Growth left up id.now e.now (length out.old) }
-    ensures size { result.0 ≡ size_of (grow id.now e.now) }
-    ensures value { result.1 ≡ reached id.now e.now up }
-    ensures stands { result.1 ≤ 65535 → Stands out.new result.0 (grow id.now e.now) }
+pub(crate) fn grow_leaf(id: IdTree, e: Tree, up: u32, left: u8, out: &mut [Node]) -> (usize, u32)
+    requires { Growth left up id e (length out.old) }
+    ensures size { result.0 ≡ size_of (grow id.entry e.entry) }
+    ensures value { result.1 ≡ reached id.entry e.entry up }
+    ensures stands { result.1 ≤ 65535 → Stands out.new result.0 (grow id.entry e.entry) }
     ensures long { length out.new ≡ length out.old }
 {
     if id.is_leaf() {
@@ -69,28 +68,26 @@ pub(crate) fn grow_leaf(id: &IdTree, e: &Tree, up: u32, left: u8, out: &mut [Nod
 // The same under a pair: one branch grows.
 #[cycle(grow_leaf_grow_pair)]
 #[tactic(auto, using(crate::proofs::GrowCode::growing))]
-fn grow_pair(id: &IdTree, e: &Tree, up: u32, left: u8, out: &mut [Node]) -> (usize, u32)
-    requires given { Growth left up id.now e.now (length out.old) }
-    requires pair { leaf_test (shape id.now) ≡ false }
-    ensures size { result.0 ≡ size_of (grow id.now e.now) }
-    ensures value { result.1 ≡ reached id.now e.now up }
-    ensures stands { result.1 ≤ 65535 → Stands out.new result.0 (grow id.now e.now) }
+fn grow_pair(id: IdTree, e: Tree, up: u32, left: u8, out: &mut [Node]) -> (usize, u32)
+    requires given { Growth left up id e (length out.old) }
+    requires pair { leaf_test (shape id) ≡ false }
+    ensures size { result.0 ≡ size_of (grow id.entry e.entry) }
+    ensures value { result.1 ≡ reached id.entry e.entry up }
+    ensures stands { result.1 ≤ 65535 → Stands out.new result.0 (grow id.entry e.entry) }
     ensures long { length out.new ≡ length out.old }
 {
-    let (l, r) = (id.lower(), id.upper());
-    let (a, b) = (e.lower(), e.upper());
     let base = e.base();
     let at = up + base as u32;
-    let low = growth_cost(&l, &a, left - 1);
-    let high = growth_cost(&r, &b, left - 1);
-    if lower_grows(l.is_zero(), r.is_zero(), low, high) {
-        let (n, value) = grow_leaf(&l, &a, at, left - 1, &mut out[1..]);
+    let low = growth_cost(id.lower(), e.lower(), left - 1);
+    let high = growth_cost(id.upper(), e.upper(), left - 1);
+    if lower_grows(&id, low, high) {
+        let (n, value) = grow_leaf(id.lower(), e.lower(), at, left - 1, &mut out[1..]);
         let mid = 1 + n;
-        let end = mid + b.put(&mut out[mid..]);
+        let end = mid + e.upper().put(&mut out[mid..]);
         (root_into(base, out, end), value)
     } else {
-        let mid = 1 + a.put(&mut out[1..]);
-        let (m, value) = grow_leaf(&r, &b, at, left - 1, &mut out[mid..]);
+        let mid = 1 + e.lower().put(&mut out[1..]);
+        let (m, value) = grow_leaf(id.upper(), e.upper(), at, left - 1, &mut out[mid..]);
         (root_into(base, out, mid + m), value)
     }
 }

@@ -53,10 +53,11 @@ impl<'a> IdTree<'a> {
         IdTree { tree: Tree::one() }
     }
 
-    pub(crate) fn tree(&self) -> &Tree<'a>
-        ensures { result.now ≡ shape self.now }
+    #[inline]
+    pub(crate) fn tree(self) -> Tree<'a>
+        ensures { result ≡ shape self.entry }
     {
-        &self.tree
+        self.tree
     }
 
     // Whether the id is 0 or 1.

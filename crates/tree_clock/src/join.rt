@@ -9,10 +9,10 @@ use crate::tree::Tree;
 
 // The join of `a` plus `up_a` and `b` plus `up_b`, at the front of `out`; the answer is its size.
 #[tactic(auto, using(crate::proofs::Joining::joining))]
-pub(crate) fn join_into(a: &Tree, up_a: u16, b: &Tree, up_b: u16, out: &mut [Node]) -> usize
-    requires below { (up_a + top a.now ≤ 65535) × (up_b + top b.now ≤ 65535) }
-    requires room { (size a.now + size b.now ≤ length out.old + 1) × (size a.now + size b.now ≤ 1000) }
-    ensures stands { Stands out.new result (join_up a.now up_a b.now up_b) }
+pub(crate) fn join_into(a: Tree, up_a: u16, b: Tree, up_b: u16, out: &mut [Node]) -> usize
+    requires below { (up_a + top a ≤ 65535) × (up_b + top b ≤ 65535) }
+    requires room { (size a + size b ≤ length out.old + 1) × (size a + size b ≤ 1000) }
+    ensures stands { Stands out.new result (join_up a.entry up_a b.entry up_b) }
     ensures long { length out.new ≡ length out.old }
 {
     let at_a = a.base() + up_a;
@@ -21,7 +21,7 @@ pub(crate) fn join_into(a: &Tree, up_a: u16, b: &Tree, up_b: u16, out: &mut [Nod
         return leaf_into(at_a.max(at_b), out);
     }
     let k = at_a.min(at_b);
-    let mid = 1 + join_into(&a.lower(), at_a - k, &b.lower(), at_b - k, &mut out[1..]);
-    let end = mid + join_into(&a.upper(), at_a - k, &b.upper(), at_b - k, &mut out[mid..]);
+    let mid = 1 + join_into(a.lower(), at_a - k, b.lower(), at_b - k, &mut out[1..]);
+    let end = mid + join_into(a.upper(), at_a - k, b.upper(), at_b - k, &mut out[mid..]);
     close(out, k, mid, end)
 }

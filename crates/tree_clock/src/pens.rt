@@ -25,12 +25,12 @@ pub struct TreePen {
 
 impl TreePen {
     #[tactic(auto, using(crate::proofs::Public::shapes))]
-    fn of(id: &IdTree) -> TreePen
-        requires { id_size id.now ≤ 63 }
-        ensures { result ≡ pen_of id.now }
+    fn of(id: IdTree) -> TreePen
+        requires { id_size id ≤ 63 }
+        ensures { result ≡ pen_of id.entry }
     {
         TreePen {
-            stored: Stored::of(id.tree()),
+            stored: Stored::of(&id.tree()),
         }
     }
 
@@ -47,7 +47,7 @@ impl TreePen {
         ensures result { result ≡ pen_of on }
         ensures made { Yes (pen_made result) }
     {
-        TreePen::of(&IdTree::one())
+        TreePen::of(IdTree::one())
     }
 
     /// The id 0: no place.
@@ -55,7 +55,7 @@ impl TreePen {
         ensures result { result ≡ pen_of off }
         ensures made { Yes (pen_made result) }
     {
-        TreePen::of(&IdTree::zero())
+        TreePen::of(IdTree::zero())
     }
 
     /// Parts the id into two halves with no place in common, and together all of
@@ -66,11 +66,13 @@ impl TreePen {
         ensures result { result ≡ fork_answer self.now }
         ensures marks { IfOk result (λ h. Forked tree_kind self.now h.0 h.1) }
     {
-        let id = self.id();
-        if cannot_split(&id, 12) {
+        if cannot_split(self.id(), 12) {
             return Err(Cause::CannotSplit.into());
         }
-        Ok((half_of(&id, Half::First), half_of(&id, Half::Second)))
+        Ok((
+            half_of(self.id(), Half::First),
+            half_of(self.id(), Half::Second),
+        ))
     }
 
     /// The id with the places of both. Refused with 12 exactly where some place
@@ -81,16 +83,15 @@ impl TreePen {
         ensures result { result ≡ unite_answer self.now other.now }
         ensures marks { IfOk result (λ p. United tree_kind self.now other.now p) }
     {
-        let (a, b) = (self.id(), other.id());
-        if overlaps(&a, &b) {
+        if overlaps(self.id(), other.id()) {
             return Err(Cause::PensOverlap.into());
         }
         let mut out: [Node; ROOM] = fillers();
-        let n = join_into(a.tree(), 0, b.tree(), 0, &mut out);
+        let n = join_into(self.id().tree(), 0, other.id().tree(), 0, &mut out);
         if n > MOST_NODES {
             return Err(Cause::PenTooLarge.into());
         }
-        Ok(TreePen::of(&IdTree::of(Tree::front(&out, n))))
+        Ok(TreePen::of(IdTree::of(Tree::front(&out, n))))
     }
 
     /// Whether two pens are one value, which is so exactly where they may make
@@ -100,17 +101,17 @@ impl TreePen {
         ensures stored { (result ≡ true) ↔ (self.now ≡ other.now) }
         ensures marks { (result ≡ true) ↔ SameMakes self.now other.now }
     {
-        self.id().tree().is(other.id().tree())
+        self.id().tree().same(&other.id().tree())
     }
 }
 
 // A half of an id, as a pen.
 #[tactic(auto, using(crate::proofs::Public::shapes))]
-fn half_of(id: &IdTree, which: Half) -> TreePen
-    requires { id_size (half (is_second which) id.now) ≤ 63 }
-    ensures { result ≡ pen_of (half (is_second which) id.now) }
+fn half_of(id: IdTree, which: Half) -> TreePen
+    requires { id_size (half (is_second which) id) ≤ 63 }
+    ensures { result ≡ pen_of (half (is_second which) id.entry) }
 {
     let mut out: [Node; ROOM] = fillers();
     let n = half_into(id, which, &mut out);
-    TreePen::of(&IdTree::of(Tree::front(&out, n)))
+    TreePen::of(IdTree::of(Tree::front(&out, n)))
 }

@@ -16,9 +16,9 @@ pub(crate) enum Half {
 }
 
 // Whether the id is 0, or a half of it would be deeper than `left`.
-pub(crate) fn cannot_split(id: &IdTree, left: u8) -> bool
-    requires { NormalId id.now × (id_depth id.now ≤ left) }
-    ensures { result ≡ unsplittable left id.now }
+pub(crate) fn cannot_split(id: IdTree, left: u8) -> bool
+    requires { NormalId id × (id_depth id ≤ left) }
+    ensures { result ≡ unsplittable left id.entry }
 {
     if id.is_zero() {
         return true;
@@ -28,10 +28,10 @@ pub(crate) fn cannot_split(id: &IdTree, left: u8) -> bool
     }
     let (l, r) = (id.lower(), id.upper());
     if l.is_zero() {
-        return cannot_split(&r, left - 1);
+        return cannot_split(r, left - 1);
     }
     if r.is_zero() {
-        return cannot_split(&l, left - 1);
+        return cannot_split(l, left - 1);
     }
     false
 }
@@ -45,9 +45,9 @@ fn neither_zero(l: &IdTree, r: &IdTree) -> bool
 
 // The pair of two ids that lie elsewhere, at the front of `out`; the answer is its size.
 #[tactic(auto, using(crate::proofs::Writing::writing))]
-fn pair_into(l: &IdTree, r: &IdTree, out: &mut [Node]) -> usize
-    requires { (id_size (pair l.now r.now) ≤ length out.old) × (length out.old ≤ 1000) }
-    ensures stands { Stands out.new result (shape (pair l.now r.now)) }
+fn pair_into(l: IdTree, r: IdTree, out: &mut [Node]) -> usize
+    requires { (id_size (pair l r) ≤ length out.old) × (length out.old ≤ 1000) }
+    ensures stands { Stands out.new result (shape (pair l.entry r.entry)) }
     ensures long { length out.new ≡ length out.old }
 {
     let mid = 1 + l.put(&mut out[1..]);
@@ -56,35 +56,35 @@ fn pair_into(l: &IdTree, r: &IdTree, out: &mut [Node]) -> usize
 }
 
 // The pair (x,0), or (0,y) for the second half, at the front of `out`; the answer is its size.
-fn side_into<'a>(x: &IdTree<'a>, y: &IdTree<'a>, which: Half, out: &mut [Node]) -> usize
-    requires { (id_size (half_pair (is_second which) x.now y.now) ≤ length out.old) × (length out.old ≤ 1000) }
-    ensures stands { Stands out.new result (shape (half_pair (is_second which) x.now y.now)) }
+fn side_into(x: IdTree, y: IdTree, which: Half, out: &mut [Node]) -> usize
+    requires { (id_size (half_pair (is_second which) x y) ≤ length out.old) × (length out.old ≤ 1000) }
+    ensures stands { Stands out.new result (shape (half_pair (is_second which) x.entry y.entry)) }
     ensures long { length out.new ≡ length out.old }
 {
     match which {
-        Half::First => pair_into(x, &IdTree::zero(), out),
-        Half::Second => pair_into(&IdTree::zero(), y, out),
+        Half::First => pair_into(x, IdTree::zero(), out),
+        Half::Second => pair_into(IdTree::zero(), y, out),
     }
 }
 
 // A half of the id, at the front of `out`; the answer is its size.
 #[tactic(auto, using(crate::proofs::Splitting::halving))]
-pub(crate) fn half_into(id: &IdTree, which: Half, out: &mut [Node]) -> usize
-    requires { (id_size (half (is_second which) id.now) ≤ length out.old) × (length out.old ≤ 1000) }
-    ensures stands { Stands out.new result (shape (half (is_second which) id.now)) }
+pub(crate) fn half_into(id: IdTree, which: Half, out: &mut [Node]) -> usize
+    requires { (id_size (half (is_second which) id) ≤ length out.old) × (length out.old ≤ 1000) }
+    ensures stands { Stands out.new result (shape (half (is_second which) id.entry)) }
     ensures long { length out.new ≡ length out.old }
 {
     if id.is_zero() {
         return leaf_into(0, out);
     }
     if id.is_leaf() {
-        return side_into(id, id, which, out);
+        return side_into(IdTree::one(), IdTree::one(), which, out);
     }
     let (l, r) = (id.lower(), id.upper());
     if neither_zero(&l, &r) {
-        return side_into(&l, &r, which, out);
+        return side_into(l, r, which, out);
     }
-    let mid = 1 + half_into(&l, which, &mut out[1..]);
-    let end = mid + half_into(&r, which, &mut out[mid..]);
+    let mid = 1 + half_into(l, which, &mut out[1..]);
+    let end = mid + half_into(r, which, &mut out[mid..]);
     root_into(0, out, end)
 }

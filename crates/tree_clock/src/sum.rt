@@ -5,9 +5,9 @@ ghost use Rattle.tree_rules.specs.Sum.{overlap};
 use crate::ids::IdTree;
 
 // Whether some place is 1 in both ids.
-pub(crate) fn overlaps(a: &IdTree, b: &IdTree) -> bool
-    requires { (NormalId a.now) × (NormalId b.now) }
-    ensures { result ≡ overlap a.now b.now }
+pub(crate) fn overlaps(a: IdTree, b: IdTree) -> bool
+    requires { (NormalId a) × (NormalId b) }
+    ensures { result ≡ overlap a.entry b.entry }
 {
     if a.is_zero() || b.is_zero() {
         return false;
@@ -15,5 +15,5 @@ pub(crate) fn overlaps(a: &IdTree, b: &IdTree) -> bool
     if a.is_leaf() || b.is_leaf() {
         return true;
     }
-    overlaps(&a.lower(), &b.lower()) || overlaps(&a.upper(), &b.upper())
+    overlaps(a.lower(), b.lower()) || overlaps(a.upper(), b.upper())
 }

@@ -98,7 +98,7 @@ impl<'a> Tree<'a> {
     }
 
     // Whether this is the other tree.
-    pub(crate) fn is(&self, other: &Tree) -> bool
+    pub(crate) fn same(&self, other: &Tree) -> bool
         ensures { (result ≡ true) ↔ (self.now ≡ other.now) }
     {
         self.nodes == other.nodes

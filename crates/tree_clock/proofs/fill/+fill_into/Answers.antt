@@ -6,10 +6,10 @@ use Rattle.tree_clock.proofs.fill.+fill_into.Goals as goal
 
 pub fill_close-requires : goal.fill_close-requires
 fill_close-requires t c =
-    let w = laid c.args.out.now _ _ _ _ _ _ (omega (arith, c.requires.room, size_pos c.args.e.now)) c.fill_into-mid.ensures.stands c.fill_into.ensures.stands in
-    fill_given c.args.id.now c.args.e.now c.requires.below.0 _ _ _ _ _ c.lower-l.ensures c.upper-r.ensures c.lower.ensures c.upper.ensures c.base.ensures _ _ c.is_one-2.ensures c.is_one-3.ensures _ _ _ w c.requires.below.1 (omega (arith, c.requires.room))
+    let w = laid c.args.out.now _ _ _ _ _ _ (omega (arith, c.requires.room, size_pos c.args.e)) c.fill_into-mid.ensures.stands c.fill_into.ensures.stands in
+    fill_given c.args.id c.args.e c.requires.below.0 _ _ _ _ _ c.lower.ensures c.upper.ensures c.lower-2.ensures c.upper-2.ensures c.base.ensures _ _ _ w c.requires.below.1 (omega (arith, c.requires.room))
 
 pub returns-clause-stands : goal.returns-clause-stands
 returns-clause-stands t c =
-    let w = laid c.args.out.now _ _ _ _ _ _ (omega (arith, c.requires.room, size_pos c.args.e.now)) c.fill_into-mid.ensures.stands c.fill_into.ensures.stands in
-    fills c.args.id.now c.args.e.now c.requires.below.0 _ _ _ _ _ c.lower-l.ensures c.upper-r.ensures c.lower.ensures c.upper.ensures c.base.ensures _ _ c.is_one-2.ensures c.is_one-3.ensures _ _ _ w c.if-is_leaf.ensures c.if-is_leaf-2.ensures _ _ c.fill_close.ensures.stands
+    let w = laid c.args.out.now _ _ _ _ _ _ (omega (arith, c.requires.room, size_pos c.args.e)) c.fill_into-mid.ensures.stands c.fill_into.ensures.stands in
+    fills c.args.id c.args.e c.requires.below.0 _ _ _ _ _ c.lower.ensures c.upper.ensures c.lower-2.ensures c.upper-2.ensures c.base.ensures _ _ _ w c.if-is_leaf.ensures c.if-is_leaf-2.ensures _ _ c.fill_close.ensures.stands

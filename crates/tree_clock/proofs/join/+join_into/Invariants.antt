@@ -3,4 +3,4 @@ use Rattle.tree_rules.specs.Events.{size}
 use Rattle.tree_clock.proofs.join.+join_into.Given as goal
 
 abbrev pub decreases-join_into : goal.decreases-join_into
-decreases-join_into l = size l.a.now + size l.b.now
+decreases-join_into l = size l.a + size l.b

@@ -1,4 +1,4 @@
-use Rattle.std.proofs.Common.{◌∙◌, sym, arith}
+use Rattle.std.proofs.Common.{sym, arith}
 use Rattle.tree_rules.specs.Shape.{shape}
 use Rattle.tree_rules.specs.Split.{half}
 use Rattle.tree_rules.proofs.Norms.{size_pos}
@@ -11,4 +11,4 @@ use Rattle.tree_clock.proofs.split.+half_into.Goals as goal
 pub returns-clause-stands : goal.returns-clause-stands
 returns-clause-stands t c =
     rw (half_parts _ _ (sym c.if-is_leaf.ensures) (rw (← c.lower-l.ensures, ← c.upper-r.ensures) (sym c.if-neither_zero.ensures)), ← c.lower-l.ensures, ← c.upper-r.ensures)
-    (c.root_into.ensures.stands _ _ _ (laid c.args.out.now _ _ _ _ _ _ (omega (arith, c.requires.0, size-shape (half (is_second c.args.which) c.args.id.now), size_pos (shape (half (is_second c.args.which) c.args.id.now)))) c.half_into-mid.ensures.stands c.half_into.ensures.stands))
+    (c.root_into.ensures.stands _ _ _ (laid c.args.out.now _ _ _ _ _ _ (omega (arith, c.requires.0, size-shape (half (is_second c.args.which) c.args.id), size_pos (shape (half (is_second c.args.which) c.args.id)))) c.half_into-mid.ensures.stands c.half_into.ensures.stands))

@@ -1,21 +1,27 @@
-use Rattle.std.proofs.Common.{◌≡◌, Ok, Result, false, sym, ap, ◌∙◌}
-use Rattle.clock.specs.declared.faults.Fault.{Fault}
+use Rattle.std.proofs.Common.{Ok, sym, ap, ◌∙◌, ap₂}
+use Rattle.clock.specs.Answers.{answered}
 use Rattle.clock.proofs.Answering.{event-has}
+use Rattle.tree_rules.specs.Fill.{fill}
+use Rattle.tree_rules.specs.Grow.{grow}
+use Rattle.tree_rules.specs.Ids.{is_off}
 use Rattle.tree_rules.proofs.Norms.{clash}
-use Rattle.tree_clock.specs.declared.clocks.TreeClock.{TreeClock}
-use Rattle.tree_clock.specs.Stored.{tree_kind, clock_of}
+use Rattle.tree_clock.specs.Growth.{past_limits}
+use Rattle.tree_clock.specs.Stored.{clock_of, tree_kind}
 use Rattle.tree_clock.specs.StoredSound.{tree_kind_sound}
 use Rattle.tree_clock.proofs.Public.{event_grows, event_fills}
 use Rattle.tree_clock.proofs.clocks.TreeClock.event.Goals as goal
 
-pub returns-then-is : goal.returns-then-is
-returns-then-is c =
-    let f = c.front-filled.ensures _ c.fill_into-n.ensures.stands in
-    let e = c.grown.ensures ∙ event_grows _ _ _ _ c.id-id.ensures.id c.tree-e.ensures.tree c.if-is_zero.ensures (sym f ∙ c.is.ensures.0 c.if-is.true) in
+pub returns-then-same : goal.returns-then-same
+returns-then-same c =
+    let z = c.if-is_zero.ensures ∙ ap is_off c.id.ensures.id in
+    let f = c.front-filled.ensures _ c.fill_into-n.ensures.stands ∙ ap₂ fill c.id-2.ensures.id c.tree.ensures.tree in
+    let g = c.grown.ensures ∙ ap₂ (λ i e. answered (past_limits (grow i e)) (clock_of (grow i e))) c.id-then-same.ensures.id c.tree-then-same.ensures.tree in
+    let e = g ∙ event_grows c.args.pen.now c.args.self.now z (sym f ∙ c.same.ensures.0 c.if-same.true ∙ c.tree-2.ensures.tree) in
     record { result = e; marks = event-has tree_kind tree_kind_sound _ _ c.requires.made.1 c.requires.made.0 _ e }
 
 pub returns : goal.returns
 returns c =
-    let f = c.front-filled.ensures _ c.fill_into-n.ensures.stands in
-    let e = ap Ok (c.of.ensures ∙ ap clock_of f) ∙ event_fills _ _ _ _ c.id-id.ensures.id c.tree-e.ensures.tree c.if-is_zero.ensures (λ q. clash (sym c.if-is.false ∙ c.is.ensures.1 (f ∙ q))) c.tree-e.ensures.limits.0 c.tree-e.ensures.limits.1 c.tree-e.ensures.limits.2 in
+    let z = c.if-is_zero.ensures ∙ ap is_off c.id.ensures.id in
+    let f = c.front-filled.ensures _ c.fill_into-n.ensures.stands ∙ ap₂ fill c.id-2.ensures.id c.tree.ensures.tree in
+    let e = ap Ok (c.of.ensures ∙ ap clock_of f) ∙ event_fills c.args.pen.now c.args.self.now z c.requires.made.0 (λ q. clash (sym c.if-same.false ∙ c.same.ensures.1 (f ∙ q ∙ sym c.tree-2.ensures.tree))) in
     record { result = e; marks = event-has tree_kind tree_kind_sound _ _ c.requires.made.1 c.requires.made.0 _ e }

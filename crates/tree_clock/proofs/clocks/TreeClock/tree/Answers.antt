@@ -1,4 +1,3 @@
-use Rattle.std.proofs.Common.{arith}
 use Rattle.tree_clock.specs.Reading.{clock_facts}
 use Rattle.tree_clock.proofs.clocks.TreeClock.tree.Goals as goal
 

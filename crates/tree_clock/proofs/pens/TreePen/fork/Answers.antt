@@ -10,10 +10,10 @@ use Rattle.tree_clock.proofs.Public.{half_fits}
 use Rattle.tree_clock.proofs.pens.TreePen.fork.Goals as goal
 
 pub half_of-requires : goal.half_of-requires
-half_of-requires c = half_fits _ c.requires.made _ c.id-id.ensures.id c.if-cannot_split.ensures false
+half_of-requires c = half_fits _ c.requires.made _ _ c.id.ensures.id c.if-cannot_split.ensures c.id-2.ensures.id false
 
 pub half_of-requires-2 : goal.half_of-requires-2
-half_of-requires-2 c = half_fits _ c.requires.made _ c.id-id.ensures.id c.if-cannot_split.ensures true
+half_of-requires-2 c = half_fits _ c.requires.made _ _ c.id.ensures.id c.if-cannot_split.ensures c.id-3.ensures.id true
 
 pub returns-clause-marks : goal.returns-clause-marks
 returns-clause-marks c =

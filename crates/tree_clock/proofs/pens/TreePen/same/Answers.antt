@@ -1,10 +1,13 @@
-use Rattle.std.proofs.Common.{◌≡◌, true, ◌↔◌}
+use Rattle.std.proofs.Common.{◌∙◌, ap}
 use Rattle.tree_rules.specs.Shape.{shape}
-use Rattle.tree_clock.specs.Stored.{id_of}
 use Rattle.tree_clock.proofs.Public.{same-stored, same_making}
 use Rattle.tree_clock.proofs.pens.TreePen.same.Goals as goal
 
 pub returns : goal.returns
 returns c =
-    let e : (c.is.result ≡ true) ↔ (shape (id_of c.args.self.now) ≡ shape (id_of c.args.other.now)) = rw (← c.id.ensures.id, ← c.id-2.ensures.id, ← c.tree.ensures, ← c.tree-2.ensures) c.is.ensures in
-    record { stored = same-stored _ _ c.requires.made.0 c.requires.made.1 _ e; marks = same_making _ _ c.requires.made.0 c.requires.made.1 _ e }
+    let v = c.tree.ensures ∙ ap shape c.id.ensures.id in
+    let w = c.tree-2.ensures ∙ ap shape c.id-2.ensures.id in
+    record {
+      stored = same-stored _ _ c.requires.made.0 c.requires.made.1 _ _ _ v w c.same.ensures;
+      marks = same_making _ _ c.requires.made.0 c.requires.made.1 _ _ _ v w c.same.ensures;
+    }
