@@ -1,4 +1,4 @@
--- The tree that lies in an array of nodes.
+-- The tree that lies in an array of nodes, and the id that it is the shape of.
 --
 -- front_size s    how many nodes the tree at the front of s has
 -- read k s        the tree that the nodes s hold, read down to k levels
@@ -7,6 +7,8 @@
 -- as_id e         the id of which a tree is the shape
 -- is_leaf         whether a tree is one leaf
 -- id_lo, id_hi    the sides of an id, a 0 or 1 having 0 on both
+-- event_code, id_code
+--                 how a proof tells two trees, or two ids, apart
 use Rattle.std.specs.Prelude.{◌≡◌, ℕ, zero, suc, ◌+◌, ◌<◌, Bool, true, false, cond, List, [], ◌∷◌, ◌++◌, length, take, drop, ◌==◌, slice_index_or, refl}
 use Rattle.std.specs.Coded.{Coded, coded×, coded_ℕ, coded_list, code_by}
 use Rattle.std.proofs.Common.{sym, ap, ap₂, ◌∙◌, arith, take_at, drop_at, ne_eqb}

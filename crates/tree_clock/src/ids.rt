@@ -68,6 +68,7 @@ impl<'a> IdTree<'a> {
         self.tree.is_leaf()
     }
 
+    // The tests for 0 and 1 are two functions, as they are two words of the rules.
     #[inline]
     pub(crate) fn is_zero(&self) -> bool
         ensures { result ≡ is_off self.now }

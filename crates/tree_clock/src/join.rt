@@ -8,6 +8,7 @@ use crate::norm::close;
 use crate::tree::Tree;
 
 // The join of `a` plus `up_a` and `b` plus `up_b`, at the front of `out`; the answer is its size.
+// A tree and its `up` are two parameters for the reason that `covers_from` gives.
 #[tactic(auto, using(crate::proofs::Joining::joining))]
 pub(crate) fn join_into(a: Tree, up_a: u16, b: Tree, up_b: u16, out: &mut [Node]) -> usize
     requires below { (up_a + top a ≤ 65535) × (up_b + top b ≤ 65535) }

@@ -24,6 +24,7 @@ pub struct TreePen {
 }
 
 impl TreePen {
+    // The pen that holds an id.
     #[tactic(auto, using(crate::proofs::Public::shapes))]
     fn of(id: IdTree) -> TreePen
         requires { id_size id ≤ 63 }
@@ -34,6 +35,7 @@ impl TreePen {
         }
     }
 
+    // The id that the pen holds.
     pub(crate) fn id(&self) -> IdTree
         requires { Yes (pen_made self.now) }
         ensures id { result ≡ id_of self.now }
@@ -101,6 +103,7 @@ impl TreePen {
         ensures stored { (result ≡ true) ↔ (self.now ≡ other.now) }
         ensures marks { (result ≡ true) ↔ SameMakes self.now other.now }
     {
+        // the id's own nodes alone, and not the fillers behind them as `==` does
         self.id().tree().same(&other.id().tree())
     }
 }

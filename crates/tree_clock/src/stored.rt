@@ -14,6 +14,7 @@ pub(crate) struct Stored {
 }
 
 impl Stored {
+    // A tree of at most 63 nodes, stored.
     pub(crate) fn of(tree: &Tree) -> Stored
         requires { size_of tree.now ≤ 63 }
         ensures { result ≡ record { nodes = stored tree.now } }
@@ -23,6 +24,7 @@ impl Stored {
         Stored { nodes }
     }
 
+    // The tree that is stored.
     pub(crate) fn tree(&self) -> Tree
         requires { (self.now.nodes ≡ stored (held self.now.nodes)) × (size_of (held self.now.nodes) ≤ 63) }
         ensures { result ≡ held self.now.nodes }

@@ -10,7 +10,8 @@ const ZERO: [Node; 1] = [Node { base: 0, size: 1 }];
 
 const ONE: [Node; 1] = [Node { base: 1, size: 1 }];
 
-// An event tree that lies in an array. A clause sees the tree.
+// An event tree that lies in an array. A clause sees the tree. A model with a
+// lifetime cannot be `Copy`, so a view that is wanted twice is taken twice.
 #[derive(Drop)]
 pub(crate) struct Tree<'a> {
     nodes: &'a [Node],
@@ -32,7 +33,7 @@ impl<'a> Model for Tree<'a> {
 }
 
 impl<'a> Tree<'a> {
-    // The tree 0.
+    // The tree 0. It and 1 are two functions, as 0 and 1 are two words of the rules.
     pub(crate) fn zero() -> Tree<'static>
         ensures { result ≡ leaf 0 }
     {
