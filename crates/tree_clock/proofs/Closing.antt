@@ -1,5 +1,5 @@
 -- Norm in place: what `close` reads and writes.
-use Rattle.std.proofs.Common.{◌≡◌, ℕ, ◌+◌, ◌-◌, ◌<◌, ◌≤◌, min, false, List, [], ◌∷◌, ◌++◌, length, get_or, take, set, sym, refl, ap, ◌∙◌, append_assoc, arith, length-append, length-set, take_at, eq-eqb, ne_eqb}
+use Rattle.std.proofs.Common.{◌≡◌, ℕ, ◌+◌, ◌-◌, ◌<◌, ◌≤◌, min, false, List, [], ◌∷◌, ◌++◌, length, get_or, take, set, sym, refl, ap, ◌∙◌, append_assoc, arith, length-append, take_at, eq-eqb, ne_eqb}
 use Rattle.std.proofs.lemmas.List.{get_or_at, set_at}
 use Rattle.tree_clock.specs.declared.nodes.Node.{Node}
 use Rattle.tree_rules.specs.Events.{Event, leaf, node, size, base, less, twins, lifted, norm, Normal}
@@ -103,6 +103,3 @@ module _ (o : List Node) (mid end n : ℕ) where
       rw (X, Y, w.2) (writes l r w.0 root w.1 m mid w.3) in
       let f : root ∷ (sunk m (flat l) ++ sunk m (flat r)) ≡ flat (lifted n m l r) = rw (ee, long) (sym (flat-lifted n m l r)) in
       (ap (take end) (g ∙ ap (λ s. s ++ w.1) f) ∙ take_at (flat (lifted n m l r)) w.1 end (flat_length (lifted n m l r) ∙ size-lifted n m l r ∙ sym long) ∙ rw k, rw k (omega (arith, long, size-lifted n m l r)))
-
-pub length_writes : (o : List Node) (i j k : ℕ) (x y z : Node) → length (set (set (set o i x) j y) k z) ≡ length o
-length_writes o i j k x y z = rw (length-set, length-set, length-set)

@@ -1,15 +1,11 @@
-pub mod Branches
+pub mod Viewing
 pub mod Storing
 pub mod Writing
 pub mod Closing
 pub mod Joining
-pub mod Covering
 pub mod Overlapping
 pub mod Splitting
 pub mod Filling
 pub mod GrowCost
 pub mod GrowCode
 pub mod Public
-pub mod PenOps
-pub mod ClockOps
-pub mod EventOps

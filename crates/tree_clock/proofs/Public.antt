@@ -1,37 +1,121 @@
--- What the public operations share: from a stored tree to its nodes, and from a buffer to an answer.
-use Rattle.std.proofs.Common.{◌≡◌, ℕ, ◌-◌, ◌≤◌, Bool, true, List, length, take, Err, ap, ◌∙◌, arith, length-take}
-use Rattle.clock.specs.declared.causes.Cause.{Cause}
+-- What the public operations on pens and clocks share.
+use Rattle.std.proofs.Common.{◌≡◌, ◌≤◌, Bool, true, false, ◌↔◌, Ok, None, Result, sym, ap, ◌∙◌, arith, le-ltb}
 use Rattle.clock.specs.declared.faults.Fault.{Fault}
-use Rattle.clock.specs.Answers.{answered, due, fault_of}
-use Rattle.tree_rules.specs.Events.{Event}
-use Rattle.tree_clock.specs.declared.nodes.Node.{Node}
-use Rattle.tree_rules.specs.Ids.{Id}
+use Rattle.clock.specs.declared.verdicts.Verdict.TheVariants.{Equal}
+use Rattle.clock.specs.Answers.{answered}
+use Rattle.clock.specs.Meaning.{Yes}
+use Rattle.clock.specs.Sound.{Within}
+use Rattle.tree_rules.specs.Ids.{Id, id_size, is_off}
+use Rattle.tree_rules.specs.Events.{Event, size, top}
+use Rattle.tree_rules.specs.Fill.{fill}
+use Rattle.tree_rules.specs.Grow.{grow, event}
+use Rattle.tree_rules.specs.Join.{join}
+use Rattle.tree_rules.specs.Kind.{grown_due, split_due}
 use Rattle.tree_rules.specs.Shape.{shape}
+use Rattle.tree_rules.specs.Sum.{sum, overlap}
+use Rattle.tree_rules.specs.Split.{half, unsplittable}
+use Rattle.tree_rules.specs.Walk.{fits_up}
+use Rattle.tree_rules.proofs.Covering.{fits_covers}
+use Rattle.tree_rules.proofs.Fills.{size-fill, top-fill}
+use Rattle.tree_rules.proofs.Grows.{size-grow, top-grow}
+use Rattle.tree_rules.proofs.Made.{made_id}
+use Rattle.tree_rules.proofs.PenLaws.{fork}
+use Rattle.tree_rules.proofs.RulesHold.{event_rules}
+use Rattle.tree_rules.proofs.Shapes.{join-shape, size-shape, top-shape, shape_injective}
 use Rattle.tree_clock.specs.declared.clocks.TreeClock.{TreeClock}
 use Rattle.tree_clock.specs.declared.pens.TreePen.{TreePen}
-use Rattle.tree_clock.specs.Flat.{flat, pad, stored, Stands}
-use Rattle.tree_clock.specs.Stored.{pen_of, clock_of}
+use Rattle.tree_clock.specs.Growth.{past_limits}
+use Rattle.tree_clock.specs.Operations.{unite_answer, event_answer, covers_answer, verdict_answer}
+use Rattle.tree_clock.specs.Reading.{clock_facts, clock_is, pen_facts, pen_is, pen_id}
+use Rattle.tree_clock.specs.Stored.{id_of, event_of, pen_of, clock_of, pen_made, clock_made, SameMakes, SameKnows, tree_kind}
+use Rattle.tree_clock.specs.StoredSound.{same_marks, tree_kind_sound}
+use Rattle.tree_clock.specs.Trees.{as_id, as_id-shape}
 
--- what `parts` promises
-abbrev pub Parts : List Node → List Node → Type 0
-Parts s t = (e : Event) → s ≡ stored e → t ≡ flat e
+-- an id as the tree that is its shape
+pub ruleset shapes = (join-shape, size-shape, top-shape, as_id-shape)
 
--- an answer is the refusal where a test says yes, and not where it says no
-pub due_yes : {X : Type 0} (t : Bool) (c : Cause) (x : X) (f : Fault) → f ≡ fault_of c → t ≡ true → Err f ≡ answered (due t c) x
-due_yes t c x f e h = rw h (ap Err e)
+pub ruleset fills = (size-fill, top-fill)
 
--- a tree that stands in `out`, as it is stored
-pub store_front : (r o : List Node) (n : ℕ) (e : Event) → r ≡ pad (take (n - 0) o) → Stands o n e → r ≡ stored e
-store_front r o n e p (q, k) =
-    let z : n - 0 ≡ n = omega arith in
-    p ∙ ap pad (rw z q)
+pub ruleset grows = (size-grow, top-grow)
 
-pub front_short : (o : List Node) (n m : ℕ) → n ≤ m → length (take (n - 0) o) ≤ m
-front_short o n m h = omega (arith, length-take (n - 0) o)
+-- the halves of a pen that can be parted fit
+pub half_fits : (p : TreePen) → Yes (pen_made p) → (i j : Id) → i ≡ id_of p → false ≡ unsplittable 12 i → j ≡ id_of p → (u : Bool) → id_size (half u j) ≤ 63
+half_fits p h i j q e q' u = rw q' (fits u)
+  where
+    none-due : split_due (id_of p) ≡ None
+    none-due = rw (sym (e ∙ ap (unsplittable 12) q))
 
--- a whole tree that is stored, as a pen and as a clock
-pub pen_filled : (r s : List Node) (i : Id) → r ≡ pad s → s ≡ flat (shape i) → ◌≡◌ {A = TreePen} (record { nodes = r }) (pen_of i)
-pen_filled r s i p q = let z = p ∙ ap pad q in λ k. record { nodes = z k }
+    fits : (u : Bool) → id_size (half u (id_of p)) ≤ 63
+    fits false = (made_id _ (fork (id_of p) (pen_id p h) none-due).first_made).2
+    fits true = (made_id _ (fork (id_of p) (pen_id p h) none-due).second_made).2
 
-pub clock_filled : (r s : List Node) (e : Event) → r ≡ pad s → s ≡ flat e → ◌≡◌ {A = TreeClock} (record { nodes = r }) (clock_of e)
-clock_filled r s e p q = let z = p ∙ ap pad q in λ k. record { nodes = z k }
+-- two pens, or two clocks, are one where what they hold is
+module _ (p q : TreePen) (h : Yes (pen_made p)) (g : Yes (pen_made q)) (r : Bool) (s t : Event) (v : s ≡ shape (id_of p)) (w : t ≡ shape (id_of q)) (e : (r ≡ true) ↔ (s ≡ t)) where
+  pub same-stored : (r ≡ true) ↔ (p ≡ q)
+  same-stored = (λ k. pen_is p h ∙ ap pen_of (shape_injective _ _ (sym v ∙ e.0 k ∙ w)) ∙ sym (pen_is q g), λ k. e.1 (v ∙ ap (λ (x : TreePen). shape (id_of x)) k ∙ sym w))
+
+  pub same_making : (r ≡ true) ↔ SameMakes p q
+  same_making =
+      let m = same_marks.pens p q h g in
+      (λ k. m.0 (same-stored.0 k), λ s. same-stored.1 (m.1 s))
+
+module _ (c d : TreeClock) (h : Yes (clock_made c)) (g : Yes (clock_made d)) where
+  module _ (r : Bool) (s t : Event) (v : s ≡ event_of c) (w : t ≡ event_of d) (e : (r ≡ true) ↔ (s ≡ t)) where
+    pub clock_stored : (r ≡ true) ↔ (c ≡ d)
+    clock_stored = (λ k. clock_is c h ∙ ap clock_of (sym v ∙ e.0 k ∙ w) ∙ sym (clock_is d g), λ k. e.1 (v ∙ ap event_of k ∙ sym w))
+
+    pub clock_knowing : (r ≡ true) ↔ SameKnows c d
+    clock_knowing =
+        let m = same_marks.clocks c d h g in
+        (λ k. m.0 (clock_stored.0 k), λ s. clock_stored.1 (m.1 s))
+
+  pub covers_done : (r : Bool) → r ≡ fits_up (event_of c) 0 (event_of d) 0 → r ≡ covers_answer c d
+  covers_done r p =
+      let x = clock_facts c h in
+      let y = clock_facts d g in
+      p ∙ fits_covers 12 (event_of c) 0 (event_of d) 0 x.1 x.2 y.2
+
+  -- a test that says what covers says
+  pub covers_marks : (r : Bool) → r ≡ covers_answer c d → (r ≡ true) ↔ Within tree_kind d c
+  covers_marks r p =
+      let s = tree_kind_sound.covers c d h g in
+      (λ k. s.0 (sym p ∙ k), λ w. p ∙ s.1 w)
+
+  -- one value is equal
+  pub equal_verdict : c ≡ d → Equal ≡ verdict_answer c d
+  equal_verdict p =
+      let a = (tree_kind_sound.covers c c h h).1 (λ l s k. k) in
+      rw (← p, a)
+
+-- the union of two pens that do not meet, t being the join of their shapes
+module _ (p q : TreePen) (h : Yes (pen_made p)) (g : Yes (pen_made q)) (v : false ≡ overlap (id_of p) (id_of q)) (t : Event) (j : t ≡ join (shape (id_of p)) (shape (id_of q))) where
+  united : t ≡ shape (sum (id_of p) (id_of q))
+  united = j ∙ join-shape (id_of p) (id_of q) (pen_facts p h).1 (pen_facts q g).1
+
+  pub unite_done : size t ≤ 63 → (k : Id) → k ≡ as_id t → (r : TreePen) → r ≡ pen_of k → ◌≡◌ {A = Result TreePen Fault} (Ok r) (unite_answer p q)
+  unite_done m k e r z =
+      let s : k ≡ sum (id_of p) (id_of q) = e ∙ ap as_id united ∙ as_id-shape (sum (id_of p) (id_of q)) in
+      let n : id_size (sum (id_of p) (id_of q)) ≤ 63 = omega (arith, size-shape (sum (id_of p) (id_of q)), ap size united) in
+      rw (sym v, le-ltb 63 (id_size (sum (id_of p) (id_of q))) n) (ap Ok (z ∙ ap pen_of s))
+
+-- an event, under an id that is not 0
+module _ (p : TreePen) (c : TreeClock) (k : false ≡ is_off (id_of p)) where
+  abbrev i : Id
+  i = id_of p
+
+  abbrev e : Event
+  e = event_of c
+
+  due_of : (t : Event) → event i e ≡ t → grown_due i e ≡ past_limits t
+  due_of t q = rw (sym k, q)
+
+  pub event_grows : fill i e ≡ e → answered (past_limits (grow i e)) (clock_of (grow i e)) ≡ event_answer p c
+  event_grows q =
+      let x = event_rules.grows i e q in
+      rw (due_of (grow i e) x, x)
+
+  pub event_fills : Yes (clock_made c) → (fill i e ≡ e → ⊥) → ◌≡◌ {A = Result TreeClock Fault} (Ok (clock_of (fill i e))) (event_answer p c)
+  event_fills g q =
+      let x = event_rules.fills i e q in
+      let f = clock_facts c g in
+      rw (due_of (fill i e) x, x, le-ltb 63 (size (fill i e)) (omega (arith, size-fill i e, f.3)), le-ltb 65535 (top (fill i e)) (omega (arith, top-fill i e f.1, f.4)))

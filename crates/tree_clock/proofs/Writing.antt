@@ -3,6 +3,7 @@ use Rattle.std.proofs.Common.{◌≡◌, ℕ, suc, ◌+◌, ◌-◌, ◌<◌, �
 use borrow.Rule.Slice.PartMut.{put_mid}
 use Rattle.std.proofs.lemmas.List.{drop_all}
 use Rattle.tree_rules.specs.Events.{Event}
+use Rattle.tree_rules.proofs.Shapes.{size-shape}
 use Rattle.tree_clock.specs.declared.nodes.Node.{Node}
 use Rattle.tree_clock.specs.Flat.{flat, Laid, Stands}
 
@@ -34,3 +35,5 @@ laid (x ∷ o) ys zs n n' L R h (p, k) (q, k') =
     let t : take (1 + n) (written (x ∷ o) 1 ys) ≡ x ∷ flat L = ap₂ take m g ∙ ap {B = List Node} (λ s. x ∷ s) p in
     let z : zs ≡ flat R ++ drop n' zs = sym (take-append-drop n' zs) ∙ ap {B = List Node} (λ s. s ++ drop n' zs) q in
     (x, drop n' zs, written_is (written (x ∷ o) 1 ys) zs (1 + n) ∙ ap₂ {C = List Node} (λ s t. s ++ t) t z, omega (arith, k), omega (arith, k'))
+
+pub ruleset writing = (from_long, written_long, size-shape)

@@ -3,14 +3,10 @@
 -- flat e              the nodes of e; a node's size counts the whole subtree, so that a subtree is a part of the list
 -- stored e            the nodes of e and then the filler, 63 in all: equal trees are equal arrays
 -- Flat s              s is the flat form of some tree
--- Under u s           the same, and its values over u are within the limit
--- FlatId s           s is the flat form of some id in normal form
 -- Laid o mid end l r  behind one place, o holds l up to mid and r up to end
 -- Stands o n e        e stands at the front of o, and n is its size
-use Rattle.std.specs.Prelude.{◌≡◌, ℕ, ◌+◌, ◌-◌, ◌≤◌, List, [], ◌∷◌, ◌++◌, length, take, replicate}
-use Rattle.tree_rules.specs.Ids.{Id, NormalId}
-use Rattle.tree_rules.specs.Events.{Event, leaf, node, size, top}
-use Rattle.tree_rules.specs.Shape.{shape}
+use Rattle.std.specs.Prelude.{◌≡◌, ℕ, ◌+◌, ◌-◌, List, [], ◌∷◌, ◌++◌, length, take, replicate}
+use Rattle.tree_rules.specs.Events.{Event, leaf, node, size}
 use Rattle.tree_clock.specs.declared.nodes.Node.{Node}
 
 abbrev pub flat : Event → List Node
@@ -28,12 +24,6 @@ stored e = pad (flat e)
 
 abbrev pub Flat : List Node → Type 0
 Flat s = (e : Event) × (s ≡ flat e)
-
-abbrev pub Under : ℕ → List Node → Type 0
-Under u s = (e : Event) × (s ≡ flat e) × (u + top e ≤ 65535)
-
-abbrev pub FlatId : List Node → Type 0
-FlatId s = (i : Id) × (s ≡ flat (shape i)) × NormalId i
 
 abbrev pub Laid : List Node → ℕ → ℕ → Event → Event → Type 0
 Laid o mid end l r = (x : Node) × (rest : List Node) × (o ≡ x ∷ (flat l ++ (flat r ++ rest))) × (mid ≡ 1 + size l) × (end ≡ mid + size r)

@@ -9,3 +9,4 @@ pub mod StoredSound
 pub mod Carrying
 pub mod Reading
 pub mod FlatForm
+pub mod Trees

@@ -1,34 +1,20 @@
 -- A stored tree reads back as it was, and what a well-made clock and a well-made pen hold.
-use Rattle.std.specs.Prelude.{◌≡◌, ℕ, zero, suc, ◌+◌, ◌<◌, ◌≤◌, true, List, [], ◌∷◌, ◌++◌, take, drop, ◌==◌, refl}
-use Rattle.std.proofs.Common.{sym, ap, ap₂, ◌∙◌, arith, take_at, drop_at, eqb-true, eq-eqb, ne_eqb}
-use Rattle.std.proofs.lemmas.Bool.{and_parts, and_from, cond-false, false≢true}
-use Rattle.tree_rules.specs.Ids.{Id, off, on, pair, id_size, id_depth, NormalId}
-use Rattle.tree_rules.specs.Events.{Event, leaf, node, size, depth, top, Normal}
+use Rattle.std.specs.Prelude.{◌≡◌, ◌≤◌, true, List, [], ◌∷◌, take, ◌==◌, refl}
+use Rattle.std.proofs.Common.{sym, ap, ap₂, ◌∙◌, arith, take_at, eqb-true, eq-eqb}
+use Rattle.std.proofs.lemmas.Bool.{and_parts, and_from, false≢true}
+use Rattle.tree_rules.specs.Ids.{Id, id_size, id_depth, NormalId}
+use Rattle.tree_rules.specs.Events.{Event, size, depth, top, Normal}
 use Rattle.tree_rules.specs.Shape.{shape}
 use Rattle.tree_rules.specs.Kind.{id_made, event_made}
-use Rattle.tree_rules.proofs.Norms.{size_pos}
 use Rattle.tree_rules.proofs.Made.{made_event, made_id}
 use Rattle.tree_rules.proofs.Shapes.{depth-shape}
 use Rattle.tree_clock.specs.declared.nodes.Node.{Node}
 use Rattle.tree_clock.specs.declared.pens.TreePen.{TreePen}
 use Rattle.tree_clock.specs.declared.clocks.TreeClock.{TreeClock}
 use Rattle.tree_clock.specs.Flat.{flat, pad, stored}
-use Rattle.tree_clock.specs.Stored.{front_size, read, as_id, held, event_of, id_of, clock_of, pen_of, same_nodes, clock_made, pen_made}
+use Rattle.tree_clock.specs.Stored.{event_of, id_of, clock_of, pen_of, same_nodes, clock_made, pen_made}
 use Rattle.tree_clock.specs.FlatForm.{flat_length}
-
-front_flat : (e : Event) (s : List Node) → front_size (flat e ++ s) ≡ size e
-front_flat (leaf n) s = refl
-front_flat (node n l r) s = refl
-
-read-flat : (k : ℕ) (e : Event) → depth e < k → read k (flat e) ≡ e
-read-flat zero e d = absurd (omega arith)
-read-flat (suc k) (leaf n) d = refl
-read-flat (suc k) (node n l r) d =
-    let s : List Node = flat l ++ flat r in
-    let f = front_flat l (flat r) in
-    let low : read k (take (front_size s) s) ≡ l = ap (λ j. read k (take j s)) f ∙ ap (read k) (take_at (flat l) (flat r) (size l) (flat_length l)) ∙ read-flat k l (omega arith) in
-    let high : read k (drop (front_size s) s) ≡ r = ap (λ j. read k (drop j s)) f ∙ ap (read k) (drop_at (flat l) (flat r) (size l) (flat_length l)) ∙ read-flat k r (omega arith) in
-    cond-false (1 + (size l + size r) == 1) _ _ (ne_eqb _ 1 (λ p. omega (arith, size_pos l))) ∙ ap₂ (node n) low high
+use Rattle.tree_clock.specs.Trees.{held, front_size, front_flat, read, as_id, read-flat, as_id-shape}
 
 front_stored : (e : Event) → take (front_size (stored e)) (stored e) ≡ flat e
 unfolding pad
@@ -40,11 +26,6 @@ held-stored e d = ap (read 13) (front_stored e) ∙ read-flat 13 e (omega arith)
 
 pub read_back : (e : Event) → depth e ≤ 12 → event_of (clock_of e) ≡ e
 read_back e d = held-stored e d
-
-as_id-shape : (i : Id) → as_id (shape i) ≡ i
-as_id-shape off = refl
-as_id-shape on = refl
-as_id-shape (pair l r) = ap₂ pair (as_id-shape l) (as_id-shape r)
 
 pub id_back : (i : Id) → id_depth i ≤ 12 → id_of (pen_of i) ≡ i
 id_back i d = ap as_id (held-stored (shape i) (omega (arith, depth-shape i))) ∙ as_id-shape i
@@ -73,14 +54,14 @@ is_same s t p = ap (same_nodes s) (sym p) ∙ same_self s
 pub clock_event : (c : TreeClock) → clock_made c ≡ true → event_made (event_of c) ≡ true
 clock_event c h = (and_parts (event_made (event_of c)) _ h).0
 
-pub clock_facts : (c : TreeClock) → clock_made c ≡ true → (c.nodes ≡ stored (event_of c)) × Normal (event_of c) × (depth (event_of c) ≤ 12) × (size (event_of c) ≤ 63) × (top (event_of c) ≤ 65535)
+pub clock_facts : (c : TreeClock) → clock_made c ≡ true → (c.stored.nodes ≡ stored (event_of c)) × Normal (event_of c) × (depth (event_of c) ≤ 12) × (size (event_of c) ≤ 63) × (top (event_of c) ≤ 65535)
 clock_facts c h =
     let p = and_parts (event_made (event_of c)) _ h in
     let m = made_event (event_of c) p.0 in
-    (same_is c.nodes _ p.1, m.0, m.1, m.2, m.3)
+    (same_is c.stored.nodes _ p.1, m.0, m.1, m.2, m.3)
 
 pub clock_is : (c : TreeClock) → clock_made c ≡ true → c ≡ clock_of (event_of c)
-clock_is c h = ap {B = TreeClock} (λ s. record { nodes = s }) (clock_facts c h).0
+clock_is c h = ap {B = TreeClock} (λ s. record { stored = record { nodes = s } }) (clock_facts c h).0
 
 pub clock_from : (e : Event) → event_made e ≡ true → clock_made (clock_of e) ≡ true
 clock_from e h =
@@ -91,14 +72,19 @@ clock_from e h =
 pub pen_id : (p : TreePen) → pen_made p ≡ true → id_made (id_of p) ≡ true
 pen_id p h = (and_parts (id_made (id_of p)) _ h).0
 
-pub pen_facts : (p : TreePen) → pen_made p ≡ true → (p.nodes ≡ stored (shape (id_of p))) × NormalId (id_of p) × (id_depth (id_of p) ≤ 12) × (id_size (id_of p) ≤ 63)
+pub pen_facts : (p : TreePen) → pen_made p ≡ true → (p.stored.nodes ≡ stored (shape (id_of p))) × NormalId (id_of p) × (id_depth (id_of p) ≤ 12) × (id_size (id_of p) ≤ 63)
 pen_facts p h =
     let q = and_parts (id_made (id_of p)) _ h in
     let m = made_id (id_of p) q.0 in
-    (same_is p.nodes _ q.1, m.0, m.1, m.2)
+    (same_is p.stored.nodes _ q.1, m.0, m.1, m.2)
+
+pub pen_held : (p : TreePen) → pen_made p ≡ true → held p.stored.nodes ≡ shape (id_of p)
+pen_held p h =
+    let f = pen_facts p h in
+    ap held f.0 ∙ held-stored (shape (id_of p)) (omega (arith, depth-shape (id_of p), f.2))
 
 pub pen_is : (p : TreePen) → pen_made p ≡ true → p ≡ pen_of (id_of p)
-pen_is p h = ap {B = TreePen} (λ s. record { nodes = s }) (pen_facts p h).0
+pen_is p h = ap {B = TreePen} (λ s. record { stored = record { nodes = s } }) (pen_facts p h).0
 
 pub pen_from : (i : Id) → id_made i ≡ true → pen_made (pen_of i) ≡ true
 pen_from i h =

@@ -1,21 +1,11 @@
 -- The two branches of a filled triple, as they lie before the triple is put into normal form.
 --
--- IdForm s               s is the flat form of some id
--- NormalForm s           s is the flat form of some tree in normal form, its values within the limit
 -- Sides o mid end s t l r  o holds l and r, both in normal form; l is a leaf if s, r if t
 -- High n l r              n over the values of l and of r is within the limit
 use Rattle.std.specs.Prelude.{◌≡◌, ℕ, ◌+◌, ◌≤◌, max, Bool, true, List}
-use Rattle.tree_rules.specs.Ids.{Id}
 use Rattle.tree_rules.specs.Events.{Event, size, top, Normal}
-use Rattle.tree_rules.specs.Shape.{shape}
-use Rattle.tree_clock.specs.Flat.{flat, Laid}
+use Rattle.tree_clock.specs.Flat.{Laid}
 use Rattle.tree_clock.specs.declared.nodes.Node.{Node}
-
-abbrev pub IdForm : List Node → Type 0
-IdForm s = (i : Id) × (s ≡ flat (shape i))
-
-abbrev pub NormalForm : List Node → Type 0
-NormalForm s = (e : Event) × (s ≡ flat e) × Normal e × (top e ≤ 65535)
 
 abbrev pub Sides : List Node → ℕ → ℕ → Bool → Bool → Event → Event → Type 0
 Sides o mid end s t l r = Laid o mid end l r × Normal l × Normal r × (s ≡ true → size l ≡ 1) × (t ≡ true → size r ≡ 1)

@@ -1,54 +1,35 @@
 -- The stored pens and clocks of this crate as a clock kind.
 --
--- read k s               the tree that the nodes s hold, read down to k levels
 -- event_of, id_of        the tree that a clock holds, the id that a pen holds
 -- clock_of, pen_of       the clock that holds a tree, the pen that holds an id
 -- same_nodes             whether two lists of nodes are one
 -- clock_made, pen_made   the tree or id is in normal form and within the limits, and stored in the one way that Flat says
 -- tree_kind              the kind: the rules of interval tree clocks, carried over to stored trees
 -- SameMarks             well-made values are equal exactly where their marks are
-use Rattle.std.specs.Prelude.{◌≡◌, ℕ, zero, suc, Bool, true, false, cond, ◌&&◌, ◌↔◌, List, [], ◌∷◌, take, drop, ◌==◌, slice_index_or}
+use Rattle.std.specs.Prelude.{◌≡◌, ℕ, Bool, true, false, ◌&&◌, ◌↔◌, List, [], ◌∷◌, ◌==◌}
 use Rattle.clock.specs.Meaning.{Meaning, Yes}
-use Rattle.tree_rules.specs.Ids.{Id, off, on, pair}
-use Rattle.tree_rules.specs.Events.{Event, leaf, node}
+use Rattle.tree_rules.specs.Ids.{Id}
+use Rattle.tree_rules.specs.Events.{Event}
 use Rattle.tree_rules.specs.Shape.{shape}
 use Rattle.tree_rules.specs.Kind.{id_made, event_made, tree}
 use Rattle.tree_clock.specs.declared.nodes.Node.{Node}
 use Rattle.tree_clock.specs.declared.pens.TreePen.{TreePen}
 use Rattle.tree_clock.specs.declared.clocks.TreeClock.{TreeClock}
-use Rattle.tree_clock.specs.Flat.{filler, stored}
+use Rattle.tree_clock.specs.Flat.{stored}
+use Rattle.tree_clock.specs.Trees.{held, as_id}
 use Rattle.tree_clock.specs.Carried.{carried}
 
--- how many nodes the tree at the front of a list has
-abbrev pub front_size : List Node → ℕ
-front_size s = (slice_index_or s 0 filler).size
-
--- a root of size 1 is a leaf; behind any other stand the lower tree and then the upper
-abbrev pub read : ℕ → List Node → Event
-read zero s = leaf 0
-read (suc k) [] = leaf 0
-read (suc k) (x ∷ s) = cond (x.size == 1) (leaf x.base) (node x.base (read k (take (front_size s) s)) (read k (drop (front_size s) s)))
-
--- the id of which a tree is the shape
-abbrev pub as_id : Event → Id
-as_id (leaf n) = cond (n == 0) off on
-as_id (node n l r) = pair (as_id l) (as_id r)
-
--- a tree of depth 12 has 13 levels
-unfoldable pub held : List Node → Event
-held s = read 13 (take (front_size s) s)
-
 abbrev pub event_of : TreeClock → Event
-event_of c = held c.nodes
+event_of c = held c.stored.nodes
 
 abbrev pub id_of : TreePen → Id
-id_of p = as_id (held p.nodes)
+id_of p = as_id (held p.stored.nodes)
 
 abbrev pub clock_of : Event → TreeClock
-clock_of e = record { nodes = stored e }
+clock_of e = record { stored = record { nodes = stored e } }
 
 abbrev pub pen_of : Id → TreePen
-pen_of i = record { nodes = stored (shape i) }
+pen_of i = record { stored = record { nodes = stored (shape i) } }
 
 abbrev pub same_nodes : List Node → List Node → Bool
 same_nodes [] [] = true
@@ -57,10 +38,10 @@ same_nodes (x ∷ s) [] = false
 same_nodes (x ∷ s) (y ∷ t) = x.base == y.base && (x.size == y.size && same_nodes s t)
 
 abbrev pub clock_made : TreeClock → Bool
-clock_made c = event_made (event_of c) && same_nodes c.nodes (stored (event_of c))
+clock_made c = event_made (event_of c) && same_nodes c.stored.nodes (stored (event_of c))
 
 abbrev pub pen_made : TreePen → Bool
-pen_made p = id_made (id_of p) && same_nodes p.nodes (stored (shape (id_of p)))
+pen_made p = id_made (id_of p) && same_nodes p.stored.nodes (stored (shape (id_of p)))
 
 abbrev pub tree_kind : Meaning TreePen TreeClock
 tree_kind = carried tree pen_of id_of pen_made clock_of event_of clock_made

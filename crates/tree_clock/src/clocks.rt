@@ -1,32 +1,51 @@
-ghost use Rattle.std.specs.Prelude.{◌≡◌, true, ◌↔◌, IfOk};
+ghost use Rattle.std.specs.Prelude.{◌≡◌, ◌≤◌, true, ◌↔◌, IfOk};
 ghost use Rattle.clock.specs.Compare.{ComparesMarks};
 ghost use Rattle.clock.specs.Meaning.{Yes};
 ghost use Rattle.clock.specs.Sound.{Joined, Within};
-ghost use Rattle.tree_rules.specs.Events.{leaf};
+ghost use Rattle.tree_rules.specs.Events.{leaf, size, top, Normal};
 ghost use Rattle.tree_clock.specs.Operations.{join_answer, covers_answer, verdict_answer};
-ghost use Rattle.tree_clock.specs.Stored.{clock_of, clock_made, SameKnows, tree_kind};
+ghost use Rattle.tree_clock.specs.Stored.{clock_of, event_of, clock_made, SameKnows, tree_kind};
 
 use crate::covers::covers_from;
 use crate::join::join_into;
-use crate::nodes::{MOST_NODES, Node, ROOM, fillers, parts, store, zero};
+use crate::nodes::{MOST_NODES, Node, ROOM, fillers};
+use crate::stored::Stored;
+use crate::tree::Tree;
 use clock::{Cause, Fault, Verdict};
 
 /// A clock of the tree kind: an event tree, which says how many marks are known
 /// at each of the 4,096 places. Only this crate makes one.
 #[derive(Clone, Copy, PartialEq, Eq, Debug)]
 pub struct TreeClock {
-    pub(crate) nodes: [Node; 63],
+    pub(crate) stored: Stored,
 }
 
 impl TreeClock {
+    // The clock that holds a tree.
+    pub(crate) fn of(tree: &Tree) -> TreeClock
+        requires { size tree.now ≤ 63 }
+        ensures { result ≡ clock_of tree.now }
+    {
+        TreeClock {
+            stored: Stored::of(tree),
+        }
+    }
+
+    // The tree that the clock holds.
+    pub(crate) fn tree(&self) -> Tree
+        requires { Yes (clock_made self.now) }
+        ensures tree { result ≡ event_of self.now }
+        ensures limits { Normal result × (size result ≤ 63) × (top result ≤ 65535) }
+    {
+        self.stored.tree()
+    }
+
     /// The tree 0, which knows no mark.
     pub fn blank() -> TreeClock
         ensures result { result ≡ clock_of (leaf 0) }
         ensures made { Yes (clock_made result) }
     {
-        TreeClock {
-            nodes: store(zero()),
-        }
+        TreeClock::of(&Tree::zero())
     }
 
     /// The tree that knows exactly what either knows. Refused with 15 exactly
@@ -37,13 +56,11 @@ impl TreeClock {
         ensures marks { IfOk result (λ c. Joined tree_kind self.now other.now c) }
     {
         let mut out: [Node; ROOM] = fillers();
-        let n = join_into(parts(&self.nodes), 0, parts(&other.nodes), 0, &mut out);
+        let n = join_into(self.tree(), 0, other.tree(), 0, &mut out);
         if n > MOST_NODES {
             return Err(Cause::ClockTooLarge.into());
         }
-        Ok(TreeClock {
-            nodes: store(&out[0..n]),
-        })
+        Ok(TreeClock::of(&Tree::front(&out, n)))
     }
 
     /// Whether this tree's value is at least the other's at every place. Never refused.
@@ -52,7 +69,7 @@ impl TreeClock {
         ensures result { result ≡ covers_answer self.now other.now }
         ensures marks { (result ≡ true) ↔ Within tree_kind other.now self.now }
     {
-        covers_from(parts(&self.nodes), 0, parts(&other.nodes), 0)
+        covers_from(self.tree(), 0, other.tree(), 0)
     }
 
     /// Whether two clocks are one value, which is so exactly where they know
@@ -62,7 +79,8 @@ impl TreeClock {
         ensures stored { (result ≡ true) ↔ (self.now ≡ other.now) }
         ensures marks { (result ≡ true) ↔ SameKnows self.now other.now }
     {
-        parts(&self.nodes) == parts(&other.nodes)
+        // the tree's own nodes alone, and not the fillers behind them as `==` does
+        self.tree().same(&other.tree())
     }
 
     /// The verdict on this clock against the other.

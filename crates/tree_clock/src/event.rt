@@ -2,11 +2,9 @@ ghost use Rattle.std.specs.Prelude.{◌≡◌, ◌≤◌, false, IfOk};
 ghost use Rattle.clock.specs.Answers.{answered};
 ghost use Rattle.clock.specs.Meaning.{Yes};
 ghost use Rattle.clock.specs.Sound.{Evented};
-ghost use Rattle.tree_rules.specs.Events.{Event, size as size_of, top};
+ghost use Rattle.tree_rules.specs.Events.{size as size_of, top};
 ghost use Rattle.tree_rules.specs.Grow.{grow as grow_of};
-ghost use Rattle.tree_rules.specs.Ids.{Id, NormalId, id_depth, is_off};
-ghost use Rattle.tree_rules.specs.Shape.{shape};
-ghost use Rattle.tree_clock.specs.Flat.{flat};
+ghost use Rattle.tree_rules.specs.Ids.{NormalId, id_depth, is_off};
 ghost use Rattle.tree_clock.specs.Growth.{past_limits};
 ghost use Rattle.tree_clock.specs.Operations.{event_answer};
 ghost use Rattle.tree_clock.specs.Stored.{clock_of, pen_made, clock_made, tree_kind};
@@ -14,8 +12,10 @@ ghost use Rattle.tree_clock.specs.Stored.{clock_of, pen_made, clock_made, tree_k
 use crate::clocks::TreeClock;
 use crate::fill::fill_into;
 use crate::grow::grow_leaf;
-use crate::nodes::{MOST_NODES, MOST_VALUE, Node, ROOM, fillers, is_zero, parts, store};
+use crate::ids::IdTree;
+use crate::nodes::{MOST_NODES, MOST_VALUE, Node, ROOM, fillers};
 use crate::pens::TreePen;
+use crate::tree::Tree;
 use clock::{Cause, Fault};
 
 impl TreeClock {
@@ -23,32 +23,31 @@ impl TreeClock {
     /// changes it, else grown. Refused with 14 exactly where the id is 0, else
     /// with 15 exactly where it has more than 63 nodes, else with 16 exactly
     /// where a value passes 65,535.
+    #[tactic(auto, using(crate::proofs::Public::fills))]
     pub fn event(&self, pen: &TreePen) -> Result<TreeClock, Fault>
         requires made { (Yes (clock_made self.now)) × (Yes (pen_made pen.now)) }
         ensures result { result ≡ event_answer pen.now self.now }
         ensures marks { IfOk result (λ c. Evented tree_kind pen.now self.now c) }
     {
-        let id = parts(&pen.nodes);
-        let e = parts(&self.nodes);
-        if is_zero(id) {
+        if pen.id().is_zero() {
             return Err(Cause::PenSpent.into());
         }
         let mut out: [Node; ROOM] = fillers();
-        let n = fill_into(id, e, &mut out);
-        let filled = &out[0..n];
-        if filled == e {
-            return grown(id, e);
+        let n = fill_into(pen.id(), self.tree(), &mut out);
+        let filled = Tree::front(&out, n);
+        if filled.same(&self.tree()) {
+            return grown(pen.id(), self.tree());
         }
-        Ok(TreeClock {
-            nodes: store(filled),
-        })
+        Ok(TreeClock::of(&filled))
     }
 }
 
 // The tree grown under the id, or its refusal.
-fn grown(id: &[Node], e: &[Node]) -> Result<TreeClock, Fault>
-    requires { (((i : Id) × (id.now ≡ flat (shape i)) × NormalId i × (id_depth i ≤ 12) × (is_off i ≡ false))) × (((t : Event) × (e.now ≡ flat t) × (size_of t ≤ 63) × (top t ≤ 65535))) }
-    ensures { (i : Id) (t : Event) → id.now ≡ flat (shape i) → e.now ≡ flat t → top t ≤ 65535 → result ≡ answered (past_limits (grow_of i t)) (clock_of (grow_of i t)) }
+#[tactic(auto, using(crate::proofs::Public::grows))]
+fn grown(id: IdTree, e: Tree) -> Result<TreeClock, Fault>
+    requires id { NormalId id × (id_depth id ≤ 12) × (is_off id ≡ false) }
+    requires tree { (size_of e ≤ 63) × (top e ≤ 65535) }
+    ensures { result ≡ answered (past_limits (grow_of id.entry e.entry)) (clock_of (grow_of id.entry e.entry)) }
 {
     let mut out: [Node; ROOM] = fillers();
     let (n, value) = grow_leaf(id, e, 0, 12, &mut out);
@@ -58,7 +57,5 @@ fn grown(id: &[Node], e: &[Node]) -> Result<TreeClock, Fault>
     if value > MOST_VALUE {
         return Err(Cause::AtLimit.into());
     }
-    Ok(TreeClock {
-        nodes: store(&out[0..n]),
-    })
+    Ok(TreeClock::of(&Tree::front(&out, n)))
 }

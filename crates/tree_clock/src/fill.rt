@@ -1,26 +1,25 @@
 ghost use Rattle.std.specs.Prelude.{◌≡◌, ℕ, ◌+◌, ◌<◌, ◌≤◌, max, length};
-ghost use Rattle.tree_rules.specs.Events.{Event, leaf, base as base_of, top, Normal};
-ghost use Rattle.tree_rules.specs.Ids.{Id};
-ghost use Rattle.tree_rules.specs.Shape.{shape};
+ghost use Rattle.tree_rules.specs.Events.{Event, leaf, base as base_of, size as size_of, top, Normal};
+ghost use Rattle.tree_rules.specs.Ids.{is_on};
 ghost use Rattle.tree_rules.specs.Fill.{filled, fill};
-ghost use Rattle.tree_clock.specs.Flat.{flat, Under, Laid, Stands};
-ghost use Rattle.tree_clock.specs.Sides.{IdForm, NormalForm, Sides, High};
+ghost use Rattle.tree_clock.specs.Flat.{Laid, Stands};
+ghost use Rattle.tree_clock.specs.Sides.{Sides, High};
+ghost use Rattle.tree_clock.specs.Trees.{id_lo, id_hi};
 
-use crate::nodes::{Node, copy_into, is_one, leaf_into, lower, upper};
+use crate::ids::IdTree;
+use crate::nodes::{Node, leaf_into};
 use crate::norm::close;
+use crate::tree::Tree;
 
 // The largest value of a tree.
-fn highest(e: &[Node]) -> u16
-    requires { Under 0 e.now }
-    ensures { (t : Event) → e.now ≡ flat t → result ≡ top t }
+fn highest(e: Tree) -> u16
+    requires { top e ≤ 65535 }
+    ensures { result ≡ top e.entry }
 {
-    let x = e[0];
-    if x.size == 1 {
-        return x.base;
+    if e.is_leaf() {
+        return e.base();
     }
-    let low = highest(lower(e));
-    let high = highest(upper(e));
-    x.base + low.max(high)
+    e.base() + highest(e.lower()).max(highest(e.upper()))
 }
 
 // Raises the leaf at `at` to the base of the tree at `by`: one of them is the
@@ -39,42 +38,35 @@ fn raise(out: &mut [Node], at: usize, by: usize)
     };
 }
 
-// Closes the triple of `base` and two filled branches, as the side that is 1 asks.
-fn fill_close(
-    out: &mut [Node],
-    base: u16,
-    mid: usize,
-    end: usize,
-    l_one: bool,
-    r_one: bool,
-) -> usize
-    requires { (l r : Event) × Sides out.old mid end l_one r_one l r × High base l r × (end ≤ 65535) }
-    ensures stands { (l r : Event) → Sides out.old mid end l_one r_one l r → Stands out.new result (filled l_one r_one base l r l r) }
+// Closes the triple of `base` and two filled branches, as the side of the id that is 1 asks.
+fn fill_close(id: &IdTree, base: u16, mid: usize, end: usize, out: &mut [Node]) -> usize
+    requires { (l r : Event) × Sides out.old mid end (is_on (id_lo id.now)) (is_on (id_hi id.now)) l r × High base l r × (end ≤ 65535) }
+    ensures stands { (l r : Event) → Sides out.old mid end (is_on (id_lo id.now)) (is_on (id_hi id.now)) l r → Stands out.new result (filled (is_on (id_lo id.now)) (is_on (id_hi id.now)) base l r l r) }
     ensures long { length out.new ≡ length out.old }
 {
-    if l_one {
+    if id.lower().is_one() {
         raise(out, 1, mid);
-    } else if r_one {
+    } else if id.upper().is_one() {
         raise(out, mid, 1);
     }
     close(out, base, mid, end)
 }
 
 // Fills `e` under the id, at the front of `out`; the answer is the size.
-pub(crate) fn fill_into(id: &[Node], e: &[Node], out: &mut [Node]) -> usize
-    requires below { (IdForm id.now) × (NormalForm e.now) }
-    requires room { (length e.now ≤ length out.old) × (length out.old ≤ 1000) }
-    ensures stands { (i : Id) (t : Event) → id.now ≡ flat (shape i) → e.now ≡ flat t → Normal t → Stands out.new result (fill i t) }
+#[tactic(auto, using(crate::proofs::Filling::filling))]
+pub(crate) fn fill_into(id: IdTree, e: Tree, out: &mut [Node]) -> usize
+    requires below { Normal e × (top e ≤ 65535) }
+    requires room { (size_of e ≤ length out.old) × (length out.old ≤ 1000) }
+    ensures stands { Stands out.new result (fill id.entry e.entry) }
     ensures long { length out.new ≡ length out.old }
 {
-    if is_one(id) {
+    if id.is_one() {
         return leaf_into(highest(e), out);
     }
-    if id[0].size == 1 || e[0].size == 1 {
-        return copy_into(e, out);
+    if id.is_leaf() || e.is_leaf() {
+        return e.put(out);
     }
-    let (l, r) = (lower(id), upper(id));
-    let mid = 1 + fill_into(l, lower(e), &mut out[1..]);
-    let end = mid + fill_into(r, upper(e), &mut out[mid..]);
-    fill_close(out, e[0].base, mid, end, is_one(l), is_one(r))
+    let mid = 1 + fill_into(id.lower(), e.lower(), &mut out[1..]);
+    let end = mid + fill_into(id.upper(), e.upper(), &mut out[mid..]);
+    fill_close(&id, e.base(), mid, end, out)
 }

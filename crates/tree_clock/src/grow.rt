@@ -1,21 +1,24 @@
-ghost use Rattle.std.specs.Prelude.{◌≡◌, ◌+◌, ◌*◌, ◌<◌, ◌≤◌, length, slice_index_or};
-ghost use Rattle.tree_rules.specs.Events.{Event, size as size_of};
-ghost use Rattle.tree_rules.specs.Ids.{Id};
+ghost use Rattle.std.specs.Prelude.{◌≡◌, ◌*◌, ◌≤◌, false, length};
+ghost use Rattle.tree_rules.specs.Events.{size as size_of};
+ghost use Rattle.tree_rules.specs.Ids.{id_depth, is_off};
 ghost use Rattle.tree_rules.specs.Shape.{shape};
 ghost use Rattle.tree_rules.specs.Grow.{lowers, cost, grow};
 ghost use Rattle.tree_rules.specs.Reach.{reached};
-ghost use Rattle.tree_clock.specs.Flat.{flat, filler, Flat, Stands};
-ghost use Rattle.tree_clock.specs.Growth.{Deep, Growth};
+ghost use Rattle.tree_clock.specs.Flat.{Stands};
+ghost use Rattle.tree_clock.specs.Growth.{Growth};
+ghost use Rattle.tree_clock.specs.Trees.{is_leaf as leaf_test, id_lo, id_hi};
 
-use crate::nodes::{Node, copy_into, is_zero, leaf_into, lower, root_into, upper};
+use crate::ids::IdTree;
+use crate::nodes::{Node, leaf_into, root_into};
+use crate::tree::Tree;
 
 // Whether the lower branch grows: not under (0,r), under (l,0), and else where it costs less.
-fn lower_grows(l_zero: bool, r_zero: bool, low: u32, high: u32) -> bool
-    ensures { result ≡ lowers l_zero r_zero low high }
+fn lower_grows(id: &IdTree, low: u32, high: u32) -> bool
+    ensures { result ≡ lowers (is_off (id_lo id.now)) (is_off (id_hi id.now)) low high }
 {
-    if l_zero {
+    if id.lower().is_zero() {
         false
-    } else if r_zero {
+    } else if id.upper().is_zero() {
         true
     } else {
         low < high
@@ -23,23 +26,23 @@ fn lower_grows(l_zero: bool, r_zero: bool, low: u32, high: u32) -> bool
 }
 
 // What growing `e` under the id costs.
-pub(crate) fn growth_cost(id: &[Node], e: &[Node], left: u8) -> u32
-    requires { (Deep left id.now) × (Flat e.now) }
-    ensures cost { (i : Id) (t : Event) → id.now ≡ flat (shape i) → e.now ≡ flat t → result ≡ cost i t }
+#[tactic(auto, using(crate::proofs::GrowCost::costs))]
+pub(crate) fn growth_cost(id: IdTree, e: Tree, left: u8) -> u32
+    requires { id_depth id ≤ left }
+    ensures cost { result ≡ cost id.entry e.entry }
     ensures most { result ≤ 1001 * left }
 {
-    if id[0].size == 1 {
+    if id.is_leaf() {
         return 0;
     }
-    let (l, r) = (lower(id), upper(id));
-    let low = growth_cost(l, lower(e), left - 1);
-    let high = growth_cost(r, upper(e), left - 1);
-    let least = if lower_grows(is_zero(l), is_zero(r), low, high) {
+    let low = growth_cost(id.lower(), e.lower(), left - 1);
+    let high = growth_cost(id.upper(), e.upper(), left - 1);
+    let least = if lower_grows(&id, low, high) {
         low
     } else {
         high
     };
-    let extra = if e[0].size == 1 { 1000 } else { 0 };
+    let extra = if e.is_leaf() { 1000 } else { 0 };
     least + 1 + extra
 }
 
@@ -47,50 +50,44 @@ pub(crate) fn growth_cost(id: &[Node], e: &[Node], left: u8) -> u32
 // grown tree and the value of the leaf that grew, `up` being the sum of the bases
 // above; at 65,536 that value is past the limit, and the tree does not stand in `out`.
 #[cycle(grow_leaf_grow_pair)]
-pub(crate) fn grow_leaf(
-    id: &[Node],
-    e: &[Node],
-    up: u32,
-    left: u8,
-    out: &mut [Node],
-) -> (usize, u32)
-    requires { Growth left up id.now e.now out.old }
-    ensures size { (i : Id) (t : Event) → id.now ≡ flat (shape i) → e.now ≡ flat t → result.0 ≡ size_of (grow i t) }
-    ensures value { (i : Id) (t : Event) → id.now ≡ flat (shape i) → e.now ≡ flat t → result.1 ≡ reached i t up }
-    ensures stands { result.1 ≤ 65535 → (i : Id) (t : Event) → id.now ≡ flat (shape i) → e.now ≡ flat t → Stands out.new result.0 (grow i t) }
+#[tactic(auto, using(crate::proofs::GrowCode::growing))]
+pub(crate) fn grow_leaf(id: IdTree, e: Tree, up: u32, left: u8, out: &mut [Node]) -> (usize, u32)
+    requires { Growth left up id e (length out.old) }
+    ensures size { result.0 ≡ size_of (grow id.entry e.entry) }
+    ensures value { result.1 ≡ reached id.entry e.entry up }
+    ensures stands { result.1 ≤ 65535 → Stands out.new result.0 (grow id.entry e.entry) }
     ensures long { length out.new ≡ length out.old }
 {
-    if id[0].size == 1 {
-        let value = up + e[0].base as u32 + 1;
-        return (leaf_into(e[0].base.saturating_add(1), out), value);
+    if id.is_leaf() {
+        let value = up + e.base() as u32 + 1;
+        return (leaf_into(e.base().saturating_add(1), out), value);
     }
     grow_pair(id, e, up, left, out)
 }
 
 // The same under a pair: one branch grows.
 #[cycle(grow_leaf_grow_pair)]
-fn grow_pair(id: &[Node], e: &[Node], up: u32, left: u8, out: &mut [Node]) -> (usize, u32)
-    requires given { Growth left up id.now e.now out.old }
-    requires pair { 1 < (slice_index_or id.now 0 filler).size }
-    ensures size { (i : Id) (t : Event) → id.now ≡ flat (shape i) → e.now ≡ flat t → result.0 ≡ size_of (grow i t) }
-    ensures value { (i : Id) (t : Event) → id.now ≡ flat (shape i) → e.now ≡ flat t → result.1 ≡ reached i t up }
-    ensures stands { result.1 ≤ 65535 → (i : Id) (t : Event) → id.now ≡ flat (shape i) → e.now ≡ flat t → Stands out.new result.0 (grow i t) }
+#[tactic(auto, using(crate::proofs::GrowCode::growing))]
+fn grow_pair(id: IdTree, e: Tree, up: u32, left: u8, out: &mut [Node]) -> (usize, u32)
+    requires given { Growth left up id e (length out.old) }
+    requires pair { leaf_test (shape id) ≡ false }
+    ensures size { result.0 ≡ size_of (grow id.entry e.entry) }
+    ensures value { result.1 ≡ reached id.entry e.entry up }
+    ensures stands { result.1 ≤ 65535 → Stands out.new result.0 (grow id.entry e.entry) }
     ensures long { length out.new ≡ length out.old }
 {
-    let (l, r) = (lower(id), upper(id));
-    let (a, b) = (lower(e), upper(e));
-    let base = e[0].base;
+    let base = e.base();
     let at = up + base as u32;
-    let low = growth_cost(l, a, left - 1);
-    let high = growth_cost(r, b, left - 1);
-    if lower_grows(is_zero(l), is_zero(r), low, high) {
-        let (n, value) = grow_leaf(l, a, at, left - 1, &mut out[1..]);
+    let low = growth_cost(id.lower(), e.lower(), left - 1);
+    let high = growth_cost(id.upper(), e.upper(), left - 1);
+    if lower_grows(&id, low, high) {
+        let (n, value) = grow_leaf(id.lower(), e.lower(), at, left - 1, &mut out[1..]);
         let mid = 1 + n;
-        let end = mid + copy_into(b, &mut out[mid..]);
+        let end = mid + e.upper().put(&mut out[mid..]);
         (root_into(base, out, end), value)
     } else {
-        let mid = 1 + copy_into(a, &mut out[1..]);
-        let (m, value) = grow_leaf(r, b, at, left - 1, &mut out[mid..]);
+        let mid = 1 + e.lower().put(&mut out[1..]);
+        let (m, value) = grow_leaf(id.upper(), e.upper(), at, left - 1, &mut out[mid..]);
         (root_into(base, out, mid + m), value)
     }
 }

@@ -20,6 +20,7 @@ mod covers;
 mod event;
 mod fill;
 mod grow;
+mod ids;
 mod join;
 mod kind;
 mod nodes;
@@ -27,7 +28,9 @@ mod norm;
 mod pens;
 mod show;
 mod split;
+mod stored;
 mod sum;
+mod tree;
 
 use clock::Clock;
 pub use clocks::TreeClock;

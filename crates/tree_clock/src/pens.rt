@@ -1,36 +1,55 @@
-ghost use Rattle.std.specs.Prelude.{◌≡◌, ℕ, ◌≤◌, true, ◌↔◌, IfOk};
+ghost use Rattle.std.specs.Prelude.{◌≡◌, ◌≤◌, true, ◌↔◌, IfOk};
 ghost use Rattle.clock.specs.Meaning.{Yes};
 ghost use Rattle.clock.specs.Sound.{Forked, United};
-ghost use Rattle.tree_rules.specs.Ids.{Id, off, on, id_size};
-ghost use Rattle.tree_rules.specs.Shape.{shape};
+ghost use Rattle.tree_rules.specs.Ids.{off, on, id_depth, id_size, NormalId};
 ghost use Rattle.tree_rules.specs.Split.{half};
-ghost use Rattle.tree_clock.specs.Flat.{flat};
 ghost use Rattle.tree_clock.specs.Halves.{is_second};
 ghost use Rattle.tree_clock.specs.Operations.{fork_answer, unite_answer};
-ghost use Rattle.tree_clock.specs.Stored.{pen_of, pen_made, SameMakes, tree_kind};
+ghost use Rattle.tree_clock.specs.Stored.{pen_of, id_of, pen_made, SameMakes, tree_kind};
 
+use crate::ids::IdTree;
 use crate::join::join_into;
-use crate::nodes::{MOST_NODES, Node, ROOM, fillers, one, parts, store, zero};
+use crate::nodes::{MOST_NODES, Node, ROOM, fillers};
 use crate::split::{Half, cannot_split, half_into};
+use crate::stored::Stored;
 use crate::sum::overlaps;
+use crate::tree::Tree;
 use clock::{Cause, Fault};
 
 /// A pen of the tree kind: an id, which says at which of the 4,096 places marks
 /// may be made. Only this crate makes one.
 #[derive(Clone, Copy, PartialEq, Eq, Debug)]
 pub struct TreePen {
-    pub(crate) nodes: [Node; 63],
+    pub(crate) stored: Stored,
 }
 
 impl TreePen {
+    // The pen that holds an id.
+    #[tactic(auto, using(crate::proofs::Public::shapes))]
+    fn of(id: IdTree) -> TreePen
+        requires { id_size id ≤ 63 }
+        ensures { result ≡ pen_of id.entry }
+    {
+        TreePen {
+            stored: Stored::of(&id.tree()),
+        }
+    }
+
+    // The id that the pen holds.
+    pub(crate) fn id(&self) -> IdTree
+        requires { Yes (pen_made self.now) }
+        ensures id { result ≡ id_of self.now }
+        ensures limits { NormalId result × (id_depth result ≤ 12) × (id_size result ≤ 63) }
+    {
+        IdTree::of(self.stored.tree())
+    }
+
     /// The id 1: every place.
     pub fn seed() -> TreePen
         ensures result { result ≡ pen_of on }
         ensures made { Yes (pen_made result) }
     {
-        TreePen {
-            nodes: store(one()),
-        }
+        TreePen::of(IdTree::one())
     }
 
     /// The id 0: no place.
@@ -38,9 +57,7 @@ impl TreePen {
         ensures result { result ≡ pen_of off }
         ensures made { Yes (pen_made result) }
     {
-        TreePen {
-            nodes: store(zero()),
-        }
+        TreePen::of(IdTree::zero())
     }
 
     /// Parts the id into two halves with no place in common, and together all of
@@ -51,33 +68,32 @@ impl TreePen {
         ensures result { result ≡ fork_answer self.now }
         ensures marks { IfOk result (λ h. Forked tree_kind self.now h.0 h.1) }
     {
-        let id = parts(&self.nodes);
-        if cannot_split(id, 12) {
+        if cannot_split(self.id(), 12) {
             return Err(Cause::CannotSplit.into());
         }
-        Ok((half_of(id, Half::First), half_of(id, Half::Second)))
+        Ok((
+            half_of(self.id(), Half::First),
+            half_of(self.id(), Half::Second),
+        ))
     }
 
     /// The id with the places of both. Refused with 12 exactly where some place
     /// is 1 in both, else with 13 exactly where it has more than 63 nodes.
+    #[tactic(auto, using(crate::proofs::Public::shapes))]
     pub fn unite(&self, other: &TreePen) -> Result<TreePen, Fault>
         requires made { (Yes (pen_made self.now)) × (Yes (pen_made other.now)) }
         ensures result { result ≡ unite_answer self.now other.now }
         ensures marks { IfOk result (λ p. United tree_kind self.now other.now p) }
     {
-        let a = parts(&self.nodes);
-        let b = parts(&other.nodes);
-        if overlaps(a, b) {
+        if overlaps(self.id(), other.id()) {
             return Err(Cause::PensOverlap.into());
         }
         let mut out: [Node; ROOM] = fillers();
-        let n = join_into(a, 0, b, 0, &mut out);
+        let n = join_into(self.id().tree(), 0, other.id().tree(), 0, &mut out);
         if n > MOST_NODES {
             return Err(Cause::PenTooLarge.into());
         }
-        Ok(TreePen {
-            nodes: store(&out[0..n]),
-        })
+        Ok(TreePen::of(IdTree::of(Tree::front(&out, n))))
     }
 
     /// Whether two pens are one value, which is so exactly where they may make
@@ -87,18 +103,18 @@ impl TreePen {
         ensures stored { (result ≡ true) ↔ (self.now ≡ other.now) }
         ensures marks { (result ≡ true) ↔ SameMakes self.now other.now }
     {
-        parts(&self.nodes) == parts(&other.nodes)
+        // the id's own nodes alone, and not the fillers behind them as `==` does
+        self.id().tree().same(&other.id().tree())
     }
 }
 
 // A half of an id, as a pen.
-fn half_of(id: &[Node], which: Half) -> TreePen
-    requires { (i : Id) × (id.now ≡ flat (shape i)) × (id_size (half (is_second which) i) ≤ 63) }
-    ensures { (i : Id) → id.now ≡ flat (shape i) → result ≡ pen_of (half (is_second which) i) }
+#[tactic(auto, using(crate::proofs::Public::shapes))]
+fn half_of(id: IdTree, which: Half) -> TreePen
+    requires { id_size (half (is_second which) id) ≤ 63 }
+    ensures { result ≡ pen_of (half (is_second which) id.entry) }
 {
     let mut out: [Node; ROOM] = fillers();
     let n = half_into(id, which, &mut out);
-    TreePen {
-        nodes: store(&out[0..n]),
-    }
+    TreePen::of(IdTree::of(Tree::front(&out, n)))
 }

@@ -41,7 +41,7 @@ fn show<W: fmt::Write>(
 /// An id as the literature writes it, as `((1,0),0)`.
 impl fmt::Display for TreePen {
     fn fmt<W: fmt::Write>(&self, f: &mut fmt::Formatter<W>) -> fmt::Result {
-        show(&self.nodes, 0, 13, Notation::Id, f)?;
+        show(&self.stored.nodes, 0, 13, Notation::Id, f)?;
         Ok(())
     }
 }
@@ -49,7 +49,7 @@ impl fmt::Display for TreePen {
 /// An event tree as the literature writes it, as `(0,1,0)`.
 impl fmt::Display for TreeClock {
     fn fmt<W: fmt::Write>(&self, f: &mut fmt::Formatter<W>) -> fmt::Result {
-        show(&self.nodes, 0, 13, Notation::Tree, f)?;
+        show(&self.stored.nodes, 0, 13, Notation::Tree, f)?;
         Ok(())
     }
 }

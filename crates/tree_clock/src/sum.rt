@@ -1,27 +1,19 @@
 ghost use Rattle.std.specs.Prelude.{◌≡◌};
-ghost use Rattle.tree_rules.specs.Ids.{Id, NormalId};
-ghost use Rattle.tree_rules.specs.Shape.{shape};
+ghost use Rattle.tree_rules.specs.Ids.{NormalId};
 ghost use Rattle.tree_rules.specs.Sum.{overlap};
-ghost use Rattle.tree_clock.specs.Flat.{flat, FlatId};
 
-use crate::nodes::{Node, is_zero, lower, upper};
+use crate::ids::IdTree;
 
 // Whether some place is 1 in both ids.
-pub(crate) fn overlaps(a: &[Node], b: &[Node]) -> bool
-    requires { (FlatId a.now) × (FlatId b.now) }
-    ensures { (i j : Id) → NormalId i → NormalId j → a.now ≡ flat (shape i) → b.now ≡ flat (shape j) → result ≡ overlap i j }
+pub(crate) fn overlaps(a: IdTree, b: IdTree) -> bool
+    requires { (NormalId a) × (NormalId b) }
+    ensures { result ≡ overlap a.entry b.entry }
 {
-    if is_zero(a) {
+    if a.is_zero() || b.is_zero() {
         return false;
     }
-    if is_zero(b) {
-        return false;
-    }
-    if a[0].size == 1 {
+    if a.is_leaf() || b.is_leaf() {
         return true;
     }
-    if b[0].size == 1 {
-        return true;
-    }
-    overlaps(lower(a), lower(b)) || overlaps(upper(a), upper(b))
+    overlaps(a.lower(), b.lower()) || overlaps(a.upper(), b.upper())
 }

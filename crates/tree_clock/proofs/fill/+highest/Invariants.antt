@@ -1,5 +1,5 @@
-use Rattle.std.proofs.Common.{length}
+use Rattle.tree_rules.specs.Events.{size}
 use Rattle.tree_clock.proofs.fill.+highest.Given as goal
 
 abbrev pub decreases-highest : goal.decreases-highest
-decreases-highest l = length l.e.now
+decreases-highest l = size l.e

@@ -1,8 +1,10 @@
-use Rattle.std.proofs.Common.{◌∙◌, arith}
+use Rattle.std.proofs.Common.{◌∙◌, sym, ap, arith}
+use Rattle.tree_rules.specs.Ids.{is_on}
+use Rattle.tree_clock.specs.Trees.{id_lo, id_hi}
 use Rattle.tree_clock.proofs.Closing.{laid_long, laid_mid}
 use Rattle.tree_clock.proofs.Filling.{raises_lower, raises_upper, raises_none, raised_closes, raised_stands}
 use Rattle.tree_clock.proofs.fill.fill_close.Goals as goal
-use Rattle.tree_clock.proofs.fill.fill_close.Goals.{then-l_one, else-l_one+then-r_one, else-l_one+else-r_one}
+use Rattle.tree_clock.proofs.fill.fill_close.Goals.{then-is_one, else-is_one+then-is_one-2, else-is_one+else-is_one-2}
 
 pub raise-requires : goal.raise-requires
 raise-requires c =
@@ -10,32 +12,28 @@ raise-requires c =
     let b = laid_mid _ _ _ _ _ c.requires.2.0 in
     (omega arith, omega arith)
 
-pub raise-requires-then-r_one : goal.raise-requires-then-r_one
-raise-requires-then-r_one c =
+pub raise-requires-then-is_one-2 : goal.raise-requires-then-is_one-2
+raise-requires-then-is_one-2 c =
     let a = laid_long _ _ _ _ _ c.requires.2.0 in
     let b = laid_mid _ _ _ _ _ c.requires.2.0 in
     (omega arith, omega arith)
 
 pub close-requires : goal.close-requires
 close-requires c =
-    raised_closes c.args.out.now _ _ _ c.args.l_one c.args.r_one _
-    (elim c.if-l_one.branch [
-      | then-l_one w ↦ raises_lower _ _ _ _ _ _ _ w.if-l_one.true (rw w.out-is w.raise.ensures.lower)
-      | else-l_one+then-r_one w ↦ raises_upper _ _ _ _ _ _ _ w.if-l_one.false w.if-r_one.true (rw w.out-is w.raise-then-r_one.ensures.upper)
-      | else-l_one+else-r_one w ↦ raises_none _ _ _ _ _ _ _ w.if-l_one.false w.if-r_one.false w.out-is
+    raised_closes c.args.out.now _ _ _ (is_on (id_lo c.args.id.now)) (is_on (id_hi c.args.id.now)) _
+    (elim c.if-is_one.branch [
+      | then-is_one w ↦ raises_lower _ _ _ _ _ _ _ (sym (w.if-is_one.ensures ∙ ap is_on c.lower.ensures)) (rw w.out-is w.raise.ensures.lower)
+      | else-is_one+then-is_one-2 w ↦ raises_upper _ _ _ _ _ _ _ (sym (w.if-is_one.ensures ∙ ap is_on c.lower.ensures)) (sym (w.if-is_one-2.ensures ∙ ap is_on w.upper.ensures)) (rw w.out-is w.raise-then-is_one-2.ensures.upper)
+      | else-is_one+else-is_one-2 w ↦ raises_none _ _ _ _ _ _ _ (sym (w.if-is_one.ensures ∙ ap is_on c.lower.ensures)) (sym (w.if-is_one-2.ensures ∙ ap is_on w.upper.ensures)) w.out-is
     ])
     c.requires
 
-pub returns : goal.returns
-returns c =
-    record {
-      stands =
-          raised_stands c.args.out.now _ _ _ c.args.l_one c.args.r_one _
-          (elim c.if-l_one.branch [
-            | then-l_one w ↦ raises_lower _ _ _ _ _ _ _ w.if-l_one.true (rw w.out-is w.raise.ensures.lower)
-            | else-l_one+then-r_one w ↦ raises_upper _ _ _ _ _ _ _ w.if-l_one.false w.if-r_one.true (rw w.out-is w.raise-then-r_one.ensures.upper)
-            | else-l_one+else-r_one w ↦ raises_none _ _ _ _ _ _ _ w.if-l_one.false w.if-r_one.false w.out-is
-          ])
-          _ _ c.close.ensures.stands;
-      long = c.close.ensures.long ∙ c.if-l_one.auto.out;
-    }
+pub returns-clause-stands : goal.returns-clause-stands
+returns-clause-stands c =
+    raised_stands c.args.out.now _ _ _ (is_on (id_lo c.args.id.now)) (is_on (id_hi c.args.id.now)) _
+    (elim c.if-is_one.branch [
+      | then-is_one w ↦ raises_lower _ _ _ _ _ _ _ (sym (w.if-is_one.ensures ∙ ap is_on c.lower.ensures)) (rw w.out-is w.raise.ensures.lower)
+      | else-is_one+then-is_one-2 w ↦ raises_upper _ _ _ _ _ _ _ (sym (w.if-is_one.ensures ∙ ap is_on c.lower.ensures)) (sym (w.if-is_one-2.ensures ∙ ap is_on w.upper.ensures)) (rw w.out-is w.raise-then-is_one-2.ensures.upper)
+      | else-is_one+else-is_one-2 w ↦ raises_none _ _ _ _ _ _ _ (sym (w.if-is_one.ensures ∙ ap is_on c.lower.ensures)) (sym (w.if-is_one-2.ensures ∙ ap is_on w.upper.ensures)) w.out-is
+    ])
+    _ _ c.close.ensures.stands

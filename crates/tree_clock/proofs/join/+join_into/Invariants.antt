@@ -1,5 +1,6 @@
-use Rattle.std.proofs.Common.{◌+◌, length}
+use Rattle.std.proofs.Common.{◌+◌}
+use Rattle.tree_rules.specs.Events.{size}
 use Rattle.tree_clock.proofs.join.+join_into.Given as goal
 
 abbrev pub decreases-join_into : goal.decreases-join_into
-decreases-join_into l = length l.a.now + length l.b.now
+decreases-join_into l = size l.a + size l.b

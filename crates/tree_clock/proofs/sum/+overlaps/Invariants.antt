@@ -1,5 +1,5 @@
-use Rattle.std.proofs.Common.{length}
+use Rattle.tree_rules.specs.Ids.{id_size}
 use Rattle.tree_clock.proofs.sum.+overlaps.Given as goal
 
 abbrev pub decreases-overlaps : goal.decreases-overlaps
-decreases-overlaps l = length l.a.now
+decreases-overlaps l = id_size l.a

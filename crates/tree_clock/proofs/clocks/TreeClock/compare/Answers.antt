@@ -4,7 +4,7 @@ use Rattle.clock.specs.Verdicts.{verdict_of}
 use Rattle.clock.proofs.Comparing.{compares_marks}
 use Rattle.tree_clock.specs.Stored.{tree_kind}
 use Rattle.tree_clock.specs.StoredSound.{tree_kind_sound}
-use Rattle.tree_clock.proofs.ClockOps.{equal_verdict}
+use Rattle.tree_clock.proofs.Public.{equal_verdict}
 use Rattle.tree_clock.proofs.clocks.TreeClock.compare.Goals as goal
 
 pub returns-then-same : goal.returns-then-same

@@ -1,49 +1,27 @@
-use Rattle.std.proofs.Common.{arith}
-use Rattle.std.proofs.lemmas.Slice.Eq.{slice_eq-Decides}
+use Rattle.std.proofs.Common.{Ok, sym, ap, ◌∙◌, ap₂}
+use Rattle.clock.specs.Answers.{answered}
 use Rattle.clock.proofs.Answering.{event-has}
-use Rattle.tree_rules.specs.Shape.{shape}
-use Rattle.tree_clock.specs.Stored.{tree_kind}
+use Rattle.tree_rules.specs.Fill.{fill}
+use Rattle.tree_rules.specs.Grow.{grow}
+use Rattle.tree_rules.specs.Ids.{is_off}
+use Rattle.tree_rules.proofs.Norms.{clash}
+use Rattle.tree_clock.specs.Growth.{past_limits}
+use Rattle.tree_clock.specs.Stored.{clock_of, tree_kind}
 use Rattle.tree_clock.specs.StoredSound.{tree_kind_sound}
-use Rattle.tree_clock.proofs.ClockOps.{clock_parts, clock_short}
-use Rattle.tree_clock.proofs.PenOps.{pen_parts, pen_flat}
-use Rattle.tree_clock.proofs.Public.{front_short}
-use Rattle.tree_clock.proofs.EventOps.{event_spent, event_grows, event_fills, event_grown_id, event_grown_tree, fill_given, filled_stands, filled-size}
+use Rattle.tree_clock.proofs.Public.{event_grows, event_fills}
 use Rattle.tree_clock.proofs.clocks.TreeClock.event.Goals as goal
-use Rattle.tree_clock.proofs.Storing.{node_eq-Decides}
 
-pub parts-id-requires : goal.parts-id-requires
-parts-id-requires c = pen_parts _ c.requires.made.1
-
-pub parts-e-requires : goal.parts-e-requires
-parts-e-requires c = clock_parts _ c.requires.made.0
-
-pub is_zero-requires : goal.is_zero-requires
-is_zero-requires c = (shape _, pen_flat _ c.requires.made.1 _ c.parts-id.ensures)
-
-pub returns-then-is_zero : goal.returns-then-is_zero
-returns-then-is_zero c = record { result = event_spent _ _ c.requires.made.1 c.requires.made.0 _ _ c.parts-id.ensures c.parts-e.ensures _ c.is_zero.ensures _ _ c.if-is_zero.true c.into.ensures; marks = tt }
-
-pub fill_into-n-requires : goal.fill_into-n-requires
-fill_into-n-requires c =
-    let l = clock_short _ c.requires.made.0 _ c.parts-e.ensures in
-    let d = c.fillers-out.ensures.long in
-    record { below = fill_given _ _ c.requires.made.1 c.requires.made.0 _ _ c.parts-id.ensures c.parts-e.ensures; room = (omega arith, omega arith) }
-
-pub slice_bounds-filled-end : goal.slice_bounds-filled-end
-slice_bounds-filled-end c = omega (arith, filled-size _ _ c.requires.made.1 c.requires.made.0 _ _ c.parts-id.ensures c.parts-e.ensures _ _ c.fill_into-n.ensures.stands, c.fill_into-n.ensures.long, c.fillers-out.ensures.long)
-
-pub grown-requires : goal.grown-requires
-grown-requires c = (event_grown_id _ _ c.requires.made.1 c.requires.made.0 _ _ c.parts-id.ensures c.parts-e.ensures _ c.is_zero.ensures c.if-is_zero.false, event_grown_tree _ _ c.requires.made.1 c.requires.made.0 _ _ c.parts-id.ensures c.parts-e.ensures _ c.is_zero.ensures c.if-is_zero.false)
-
-pub returns-then-eq : goal.returns-then-eq
-returns-then-eq c =
-    let e = event_grows _ _ c.requires.made.1 c.requires.made.0 _ _ c.parts-id.ensures c.parts-e.ensures _ c.is_zero.ensures c.if-is_zero.false _ _ (filled_stands _ _ c.requires.made.1 c.requires.made.0 _ _ c.parts-id.ensures c.parts-e.ensures _ _ c.fill_into-n.ensures.stands) _ (slice_eq-Decides node_eq-Decides _ _ _ c.eq.ensures) c.if-eq.true _ c.grown.ensures in
+pub returns-then-same : goal.returns-then-same
+returns-then-same c =
+    let z = c.if-is_zero.ensures ∙ ap is_off c.id.ensures.id in
+    let f = c.front-filled.ensures _ c.fill_into-n.ensures.stands ∙ ap₂ fill c.id-2.ensures.id c.tree.ensures.tree in
+    let g = c.grown.ensures ∙ ap₂ (λ i e. answered (past_limits (grow i e)) (clock_of (grow i e))) c.id-then-same.ensures.id c.tree-then-same.ensures.tree in
+    let e = g ∙ event_grows c.args.pen.now c.args.self.now z (sym f ∙ c.same.ensures.0 c.if-same.true ∙ c.tree-2.ensures.tree) in
     record { result = e; marks = event-has tree_kind tree_kind_sound _ _ c.requires.made.1 c.requires.made.0 _ e }
-
-pub store-requires : goal.store-requires
-store-requires c = front_short _ c.fill_into-n.result 63 (filled-size _ _ c.requires.made.1 c.requires.made.0 _ _ c.parts-id.ensures c.parts-e.ensures _ _ c.fill_into-n.ensures.stands)
 
 pub returns : goal.returns
 returns c =
-    let e = event_fills _ _ c.requires.made.1 c.requires.made.0 _ _ c.parts-id.ensures c.parts-e.ensures _ c.is_zero.ensures c.if-is_zero.false _ _ (filled_stands _ _ c.requires.made.1 c.requires.made.0 _ _ c.parts-id.ensures c.parts-e.ensures _ _ c.fill_into-n.ensures.stands) _ (slice_eq-Decides node_eq-Decides _ _ _ c.eq.ensures) c.if-eq.false _ c.store.ensures in
+    let z = c.if-is_zero.ensures ∙ ap is_off c.id.ensures.id in
+    let f = c.front-filled.ensures _ c.fill_into-n.ensures.stands ∙ ap₂ fill c.id-2.ensures.id c.tree.ensures.tree in
+    let e = ap Ok (c.of.ensures ∙ ap clock_of f) ∙ event_fills c.args.pen.now c.args.self.now z c.requires.made.0 (λ q. clash (sym c.if-same.false ∙ c.same.ensures.1 (f ∙ q ∙ sym c.tree-2.ensures.tree))) in
     record { result = e; marks = event-has tree_kind tree_kind_sound _ _ c.requires.made.1 c.requires.made.0 _ e }

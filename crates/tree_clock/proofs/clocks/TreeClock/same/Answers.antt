@@ -1,15 +1,9 @@
-use Rattle.std.proofs.lemmas.Slice.Eq.{slice_eq-Decides}
-use Rattle.tree_clock.proofs.ClockOps.{clock_parts, clock_stored, clock_knowing}
+use Rattle.tree_clock.proofs.Public.{clock_stored, clock_knowing}
 use Rattle.tree_clock.proofs.clocks.TreeClock.same.Goals as goal
-use Rattle.tree_clock.proofs.Storing.{node_eq-Decides}
-
-pub parts-requires : goal.parts-requires
-parts-requires c = clock_parts _ c.requires.made.0
-
-pub parts-requires-2 : goal.parts-requires-2
-parts-requires-2 c = clock_parts _ c.requires.made.1
 
 pub returns : goal.returns
 returns c =
-    let d = slice_eq-Decides node_eq-Decides _ _ _ c.eq.ensures in
-    record { stored = clock_stored _ _ c.requires.made.0 c.requires.made.1 _ _ c.parts.ensures c.parts-2.ensures _ d; marks = clock_knowing _ _ c.requires.made.0 c.requires.made.1 _ _ c.parts.ensures c.parts-2.ensures _ d }
+    record {
+      stored = clock_stored _ _ c.requires.made.0 c.requires.made.1 _ _ _ c.tree.ensures.tree c.tree-2.ensures.tree c.same.ensures;
+      marks = clock_knowing _ _ c.requires.made.0 c.requires.made.1 _ _ _ c.tree.ensures.tree c.tree-2.ensures.tree c.same.ensures;
+    }

@@ -1,29 +1,21 @@
-use Rattle.std.proofs.Common.{true, false}
+use Rattle.std.proofs.Common.{◌≡◌, Ok, Result, true, false, arith}
+use Rattle.std.proofs.lemmas.Grind.{common_steps}
+use Rattle.clock.specs.declared.faults.Fault.{Fault}
 use Rattle.clock.proofs.Answering.{fork_has}
-use Rattle.tree_clock.specs.Reading.{pen_facts}
+use Rattle.tree_clock.specs.declared.pens.TreePen.{TreePen}
+use Rattle.tree_clock.specs.Operations.{fork_answer}
 use Rattle.tree_clock.specs.Stored.{tree_kind}
 use Rattle.tree_clock.specs.StoredSound.{tree_kind_sound}
-use Rattle.tree_clock.proofs.PenOps.{pen_parts, pen_flat, fork_refused, half_fits, fork_done}
+use Rattle.tree_clock.proofs.Public.{half_fits}
 use Rattle.tree_clock.proofs.pens.TreePen.fork.Goals as goal
 
-pub parts-id-requires : goal.parts-id-requires
-parts-id-requires c = pen_parts _ c.requires.made
-
-pub cannot_split-requires : goal.cannot_split-requires
-cannot_split-requires c =
-    let f = pen_facts _ c.requires.made in
-    (_, pen_flat _ c.requires.made _ c.parts-id.ensures, f.1, f.2)
-
-pub returns-then-cannot_split : goal.returns-then-cannot_split
-returns-then-cannot_split c = record { result = fork_refused _ c.requires.made _ c.parts-id.ensures _ c.cannot_split.ensures _ _ c.if-cannot_split.true c.into.ensures; marks = tt }
-
 pub half_of-requires : goal.half_of-requires
-half_of-requires c = half_fits _ c.requires.made _ c.parts-id.ensures _ c.cannot_split.ensures c.if-cannot_split.false false
+half_of-requires c = half_fits _ c.requires.made _ _ c.id.ensures.id c.if-cannot_split.ensures c.id-2.ensures.id false
 
 pub half_of-requires-2 : goal.half_of-requires-2
-half_of-requires-2 c = half_fits _ c.requires.made _ c.parts-id.ensures _ c.cannot_split.ensures c.if-cannot_split.false true
+half_of-requires-2 c = half_fits _ c.requires.made _ _ c.id.ensures.id c.if-cannot_split.ensures c.id-3.ensures.id true
 
-pub returns : goal.returns
-returns c =
-    let e = fork_done _ c.requires.made _ c.parts-id.ensures _ c.cannot_split.ensures c.if-cannot_split.false _ _ c.half_of.ensures c.half_of-2.ensures in
-    record { result = e; marks = fork_has tree_kind tree_kind_sound _ c.requires.made _ e }
+pub returns-clause-marks : goal.returns-clause-marks
+returns-clause-marks c =
+    let e : ◌≡◌ {A = Result (TreePen × TreePen) Fault} (Ok (c.half_of.result, c.half_of-2.result)) (fork_answer c.args.self.now) = grind (arith, common_steps) in
+    fork_has tree_kind tree_kind_sound _ c.requires.made _ e

@@ -1,12 +1,5 @@
-use Rattle.std.proofs.Common.{sym, subst}
-use Rattle.tree_rules.specs.Ids.{off}
-use Rattle.clock.specs.Meaning.{Yes}
-use Rattle.tree_clock.specs.Stored.{pen_made}
-use Rattle.tree_clock.proofs.Public.{pen_filled}
 use Rattle.tree_clock.specs.StoredSound.{tree_kind_sound}
 use Rattle.tree_clock.proofs.pens.TreePen.none.Goals as goal
 
-pub returns : goal.returns
-returns c =
-    let e = pen_filled _ _ off c.store.ensures c.zero.ensures in
-    record { result = e; made = subst (λ x. Yes (pen_made x)) (sym e) tree_kind_sound.no_pen_made }
+pub returns-clause-made : goal.returns-clause-made
+returns-clause-made c = rw (c.of.ensures, c.zero.ensures) tree_kind_sound.no_pen_made

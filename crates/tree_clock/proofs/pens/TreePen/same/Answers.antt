@@ -1,15 +1,13 @@
-use Rattle.std.proofs.lemmas.Slice.Eq.{slice_eq-Decides}
-use Rattle.tree_clock.proofs.PenOps.{pen_parts, same-stored, same_making}
+use Rattle.std.proofs.Common.{◌∙◌, ap}
+use Rattle.tree_rules.specs.Shape.{shape}
+use Rattle.tree_clock.proofs.Public.{same-stored, same_making}
 use Rattle.tree_clock.proofs.pens.TreePen.same.Goals as goal
-use Rattle.tree_clock.proofs.Storing.{node_eq-Decides}
-
-pub parts-requires : goal.parts-requires
-parts-requires c = pen_parts _ c.requires.made.0
-
-pub parts-requires-2 : goal.parts-requires-2
-parts-requires-2 c = pen_parts _ c.requires.made.1
 
 pub returns : goal.returns
 returns c =
-    let d = slice_eq-Decides node_eq-Decides _ _ _ c.eq.ensures in
-    record { stored = same-stored _ _ c.requires.made.0 c.requires.made.1 _ _ c.parts.ensures c.parts-2.ensures _ d; marks = same_making _ _ c.requires.made.0 c.requires.made.1 _ _ c.parts.ensures c.parts-2.ensures _ d }
+    let v = c.tree.ensures ∙ ap shape c.id.ensures.id in
+    let w = c.tree-2.ensures ∙ ap shape c.id-2.ensures.id in
+    record {
+      stored = same-stored _ _ c.requires.made.0 c.requires.made.1 _ _ _ v w c.same.ensures;
+      marks = same_making _ _ c.requires.made.0 c.requires.made.1 _ _ _ v w c.same.ensures;
+    }

@@ -1,0 +1,8 @@
+use Rattle.tree_clock.proofs.Viewing.{lies_some, lies_leaf}
+use Rattle.tree_clock.proofs.tree.Tree.is_leaf.Goals as goal
+
+pub bounds-self-inside-0 : goal.bounds-self-inside-0
+bounds-self-inside-0 c = lies_some _ _ c.self.invariant c.self.view_is
+
+pub returns : goal.returns
+returns c = lies_leaf _ _ c.self.invariant c.self.view_is
