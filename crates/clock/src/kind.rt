@@ -11,6 +11,8 @@ use crate::verdicts::Verdict;
 /// some. The ghost member `meaning` says which, and fixes every answer; the law
 /// `sound` is what each kind has to show of it. Pens and clocks are plain
 /// values: an operation makes a new one and changes none.
+// That a pen or a clock is well made is asked by clauses: they are plain data with no
+// invariant in their types, a rule of the project.
 pub trait Clock: Copy {
     /// The right to make marks.
     type Pen: Copy;

@@ -12,7 +12,8 @@ pub enum State {
 
 /// A slot of a yard, which holds up to 16 of them: empty, or working with a
 /// replica that has a pen, the right to make marks.
-#[derive(Clone, Copy)]
+// A state and a pen, and no Option: an empty berth has a pen too, the empty one, which the rules name.
+#[derive(Clone, Copy, PartialEq, Eq, Debug)]
 pub struct Berth<Q> {
     pub state: State,
     pub pen: Q,
@@ -33,7 +34,7 @@ impl<Q> Berth<Q> {
 /// A copy of a file: its clock, which knows the marks behind it, and its
 /// payload. In a yard of F files the copy of file f in berth b is record
 /// b × F + f.
-#[derive(Clone, Copy)]
+#[derive(Clone, Copy, PartialEq, Eq, Debug)]
 pub struct Record<C, P> {
     pub clock: C,
     pub payload: P,

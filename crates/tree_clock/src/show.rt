@@ -10,7 +10,8 @@ enum Notation {
     Tree,
 }
 
-// Writes the tree that stands at `at`, and answers where the next one stands.
+// Writes the tree that stands at `at`, and answers where the next one stands. It goes
+// by places and not by views, since `Display` may not ask that the nodes hold a tree.
 // `left` is one more than the depth there may be.
 fn show<W: fmt::Write>(
     nodes: &[Node],

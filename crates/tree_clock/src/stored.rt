@@ -7,7 +7,7 @@ use crate::nodes::{MOST_NODES, Node, fillers};
 use crate::tree::Tree;
 
 // A tree as pens and clocks hold it: its nodes and then fillers, so that equal
-// trees are equal arrays.
+// trees are equal arrays. No Box and no Vec: the library has fixed memory and no heap.
 #[derive(Clone, Copy, PartialEq, Eq, Debug)]
 pub(crate) struct Stored {
     pub(crate) nodes: [Node; 63],

@@ -11,6 +11,7 @@ pub struct Names<const N: usize> {
     pub(crate) held: [bool; N],
 }
 
+// `all` and `none` are two functions, as they are two words of the rules.
 impl<const N: usize> Names<N> {
     /// The pen with every name.
     pub fn all() -> Names<N>
@@ -95,16 +96,13 @@ impl<const N: usize> Names<N> {
 /// `{0,1,2}`
 impl<const N: usize> fmt::Display for Names<N> {
     fn fmt<W: fmt::Write>(&self, f: &mut fmt::Formatter<W>) -> fmt::Result {
-        let mut first = true;
         f.write_str("{")?;
-        for (name, held) in self.held.iter().enumerate() {
-            if *held {
-                if !first {
-                    f.write_str(",")?;
-                }
-                write!(f, "{name}")?;
-                first = false;
+        let names = self.held.iter().enumerate().filter(|(_, held)| **held);
+        for (i, (name, _)) in names.enumerate() {
+            if i > 0 {
+                f.write_str(",")?;
             }
+            write!(f, "{name}")?;
         }
         f.write_str("}")
     }

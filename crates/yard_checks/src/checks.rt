@@ -15,6 +15,8 @@ pub fn refuse_if(is_due: bool, fault: Fault) -> Result<(), Fault>
     if is_due { Err(fault) } else { Ok(()) }
 }
 
+// The two tables are two parameters, and no struct: a call borrows for writing only the table that it writes.
+
 /// 1: the tables are of the card's sizes, which are within the limits.
 pub fn check_sizes<X, Y>(sizes: Sizes, berths: &[X], copies: &[Y]) -> Result<(), Fault>
     ensures { result ≡ passing (wrong_sizes sizes berths.now copies.now) }
@@ -79,6 +81,9 @@ pub fn check_buffer(sizes: Sizes, bytes: &[u8]) -> Result<(), Fault>
 {
     refuse_if(bytes.len() < sizes.files, Cause::ShortBuffer.into())
 }
+
+// That two berths, the sizes and a lent table fit one another is the fact `Ready` of specs/, asked below a call's
+// checks: no one value of ours holds all of them.
 
 /// Where the records of berth a stand, one for each file.
 pub fn row(sizes: Sizes, a: usize) -> Range<usize>
