@@ -19,6 +19,7 @@ pub enum Verdict {
 impl Verdict {
     /// The verdict on a first clock against a second, from whether the first
     /// covers the second and whether the second covers the first.
+    // No conversion, and no switch: the two answers come from two clocks.
     pub fn of(covers: bool, covered: bool) -> Verdict
         ensures { result ≡ verdict_of covers covered }
     {

@@ -6,6 +6,7 @@ pub trait Payload: Copy {
     ghost same: { Self → Self → Bool };
 
     /// Whether the two payloads are alike.
+    // Not `==`: it is the kind's own question, and values that differ may be alike.
     fn alike(&self, other: &Self) -> bool
         ensures { result ≡ same self.now other.now };
 

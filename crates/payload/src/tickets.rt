@@ -10,6 +10,7 @@ use std::str::FromStr;
 use thiserror::Error;
 
 /// A digest of 32 bytes and a length. The digest is given from outside.
+// An array by value: a rule of the project, and the library has no heap.
 #[derive(Clone, Copy, PartialEq, Eq, Debug)]
 pub struct Ticket {
     digest: [u8; 32],

@@ -47,6 +47,7 @@ pub enum ValveError {
     FlowRange = 4,
 }
 
+// `shut`, `open`, `part` and `flow` are four functions, as they are four words of the rules.
 impl Valve {
     /// The shut valve.
     pub fn shut() -> Valve

@@ -6,6 +6,7 @@ use clock::{Cause, Fault};
 use std::{array, fmt};
 
 /// A set of names below N: the right to make the marks of those names.
+// An array by value: a rule of the project, and the library has no heap.
 #[derive(Clone, Copy, PartialEq, Eq, Debug)]
 pub struct Names<const N: usize> {
     pub(crate) held: [bool; N],
@@ -53,7 +54,8 @@ impl<const N: usize> Names<N> {
         Ok(self.halves(size - size / 2))
     }
 
-    // The lowest `half` names, and the rest.
+    // The lowest `half` names, and the rest. By name, and no zip with `iter_mut`: after that the check knows nothing
+    // of the names.
     fn halves(&self, half: usize) -> (Names<N>, Names<N>)
         requires { half ≡ (size_of self.now + 1) / 2 }
         ensures { result ≡ (lower_half self.now, upper_half self.now) }

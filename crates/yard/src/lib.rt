@@ -19,8 +19,6 @@
 //! buffer are exactly the documented ones; `history`, whatever calls led to
 //! these tables, the verdicts speak of the edits behind the copies.
 
-// Pens, clocks, records and berths are plain data with no invariant in their types, a rule of the project: so the
-// clause `made`, and what it says of one table, stands on each contract.
 #![tactic(auto)]
 
 pub use yard_cards::{Card, OpenCard, SealedCard, blank_berth, blank_copy, open, seal};

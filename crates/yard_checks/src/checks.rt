@@ -28,6 +28,9 @@ pub fn check_sizes<X, Y>(sizes: Sizes, berths: &[X], copies: &[Y]) -> Result<(),
     refuse_if(!fit, Cause::Sizes.into())
 }
 
+// `check_berth` and `check_file` differ in which number and which place, the two below in the state that is wanted:
+// one line each over `refuse_if`, and each a refusal of its own.
+
 /// 2: there is such a berth.
 pub fn check_berth(sizes: Sizes, a: usize) -> Result<(), Fault>
     ensures { result ≡ passing (no_berth sizes a) }
@@ -81,9 +84,6 @@ pub fn check_buffer(sizes: Sizes, bytes: &[u8]) -> Result<(), Fault>
 {
     refuse_if(bytes.len() < sizes.files, Cause::ShortBuffer.into())
 }
-
-// That two berths, the sizes and a lent table fit one another is the fact `Ready` of specs/, asked below a call's
-// checks: no one value of ours holds all of them.
 
 /// Where the records of berth a stand, one for each file.
 pub fn row(sizes: Sizes, a: usize) -> Range<usize>

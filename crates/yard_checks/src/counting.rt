@@ -7,6 +7,6 @@ use clock::Verdict;
 pub fn count_verdict(bytes: &[u8], verdict: Verdict) -> usize
     ensures { result ≡ count_by (λ byte. byte == byte_of verdict) bytes.now }
 {
-    let told = u8::from(verdict);
-    bytes.iter().filter(|byte| **byte == told).count()
+    let wanted = u8::from(verdict);
+    bytes.iter().filter(|byte| **byte == wanted).count()
 }

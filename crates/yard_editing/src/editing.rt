@@ -11,6 +11,9 @@ use history::{Berth, Record, Sizes};
 use yard_cards::{Card, OpenCard};
 use yard_checks::{Place, check_berth, check_file, check_sizes, check_working, place};
 
+// The pens and clocks of the tables are plain data with no invariant in their types, a rule of the project: so `made`,
+// and what it says of one table, stands on each contract. Two berths, or a berth and a file, are no one thing.
+
 fn check_edit<Q, C, P>(
     sizes: Sizes,
     berths: &[Berth<Q>],

@@ -12,6 +12,11 @@ use history::{Berth, Record, Sizes};
 use yard_cards::{Card, OpenCard};
 use yard_checks::{Place, check_berth, check_empty, check_sizes, check_two, check_working, row};
 
+// The pens and clocks of the tables are plain data with no invariant in their types, a rule of the project: so `made`,
+// and what it says of one table, stands on each contract. Two berths, or a berth and a file, are no one thing.
+// `Ready` ties two berths, the sizes and a lent table: no one value holds them, and a struct of them would have a
+// maker for each call, with the proof that the call's own checks give it.
+
 fn check_fork<Q, C, P>(
     sizes: Sizes,
     berths: &[Berth<Q>],

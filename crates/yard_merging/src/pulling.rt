@@ -16,6 +16,9 @@ use yard_checks::{
     check_berth, check_buffer, check_sizes, check_two, check_working, count_verdict, row,
 };
 
+// The pens and clocks of the tables are plain data with no invariant in their types, a rule of the project: so `made`,
+// and what it says of one table, stands on each contract. Two berths, or a berth and a file, are no one thing.
+
 fn check_pull<Q, C, P>(
     sizes: Sizes,
     berths: &[Berth<Q>],
@@ -35,6 +38,8 @@ fn check_pull<Q, C, P>(
     check_buffer(sizes, bytes)
 }
 
+// A pair of counts: a rule of the project. The places of both rows, since they lie in one table that is lent for
+// writing; `bytes[f]`, and no zip with `iter_mut`: after that the check knows nothing of the bytes.
 fn pull_files<C: Clock, P: Copy>(
     sizes: Sizes,
     copies: &mut [Record<C, P>],
@@ -52,9 +57,9 @@ fn pull_files<C: Clock, P: Copy>(
     for (f, (i, j)) in row(sizes, b).zip(row(sizes, a)).enumerate() {
         bytes[f] = take_newer(copies, i, j).into();
     }
-    let told = &bytes[..sizes.files];
-    let taken = count_verdict(told, Verdict::Stale);
-    let conflicts = count_verdict(told, Verdict::Conflict);
+    let written = &bytes[..sizes.files];
+    let taken = count_verdict(written, Verdict::Stale);
+    let conflicts = count_verdict(written, Verdict::Conflict);
     (taken, conflicts)
 }
 

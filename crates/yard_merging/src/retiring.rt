@@ -1,7 +1,6 @@
 ghost use Rattle.std.specs.Prelude.{◌≡◌, ◌<◌, [], ◌∷◌, ◌++◌, length, set};
 ghost use Rattle.clock.specs.Answers.{answered};
-ghost use Rattle.history.specs.Tables.{pen_at, working_berth, Made};
-ghost use Rattle.history.specs.declared.tables.State.TheVariants.{Empty};
+ghost use Rattle.history.specs.Tables.{pen_at, working_berth, empty_berth, Made};
 ghost use Rattle.history.specs.Checks.{left, some_conflict};
 ghost use Rattle.history.specs.Retire.{retire_plain, retire_result};
 ghost use Rattle.history.specs.Calls.{retire as retire_call};
@@ -12,9 +11,14 @@ ghost use Rattle.yard_checks.specs.Entries.{Clocks, Pens};
 
 use crate::taking::take_files;
 use clock::{Cause, Clock, Fault, Verdict};
-use history::{Berth, Record, Sizes, State};
-use yard_cards::{Card, OpenCard};
+use history::{Berth, Record, Sizes};
+use yard_cards::{Card, OpenCard, blank_berth};
 use yard_checks::{Place, check_berth, check_sizes, check_two, check_working, row};
+
+// The pens and clocks of the tables are plain data with no invariant in their types, a rule of the project: so `made`,
+// and what it says of one table, stands on each contract. Two berths, or a berth and a file, are no one thing.
+// `Ready` ties two berths, the sizes and a lent table: no one value holds them, and a struct of them would have a
+// maker for each call, with the proof that the call's own checks give it.
 
 fn check_two_working<Q, C, P>(
     sizes: Sizes,
@@ -76,15 +80,12 @@ fn united_pen<C: Clock>(berths: &[Berth<C::Pen>], a: usize, b: usize) -> Result<
 }
 
 // Berth b works with the pen, and berth a becomes empty.
-fn hand_over<Q: Copy>(berths: &mut [Berth<Q>], a: usize, b: usize, pen: Q, none: Q)
+fn hand_over<C: Clock>(berths: &mut [Berth<C::Pen>], a: usize, b: usize, pen: C::Pen)
     requires { (a < length berths.old) × (b < length berths.old) }
-    ensures { berths.new ≡ set (set berths.old b (working_berth pen)) a (record { state = Empty; pen = none }) }
+    ensures { berths.new ≡ set (set berths.old b (working_berth pen)) a (empty_berth C.Clock.meaning) }
 {
     berths[b] = Berth::working(pen);
-    berths[a] = Berth {
-        state: State::Empty,
-        pen: none,
-    };
+    berths[a] = blank_berth::<C>();
 }
 
 // The retiring, under a card of these sizes.
@@ -100,7 +101,7 @@ fn retire_berth<C: Clock, P: Copy>(
 {
     check_retire(sizes, berths, copies, a, b)?;
     let pen = united_pen::<C>(berths, a, b).at_berth(b)?;
-    hand_over(berths, a, b, pen, C::no_pen());
+    hand_over::<C>(berths, a, b, pen);
     take_files(sizes, copies, a, b);
     Ok(())
 }

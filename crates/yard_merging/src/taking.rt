@@ -8,6 +8,8 @@ use clock::{Clock, Verdict};
 use history::{Record, Sizes};
 use yard_checks::row;
 
+// Both rows lie in one table that is lent for writing, so the loop goes over their places and not over their records.
+
 // Record i becomes record j where it is stale against it. The verdict beforehand.
 pub(crate) fn take_newer<C: Clock, P: Copy>(
     copies: &mut [Record<C, P>],

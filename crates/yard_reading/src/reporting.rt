@@ -14,6 +14,11 @@ use payload::Payload;
 use yard_cards::Card;
 use yard_checks::{check_berth, check_buffer, check_sizes, check_working, count_verdict, row};
 
+// The pens and clocks of the tables are plain data with no invariant in their types, a rule of the project: so `made`,
+// and what it says of one table, stands on each contract. Two berths, or a berth and a file, are no one thing.
+// `Ready` ties two berths, the sizes and a lent table: no one value holds them, and a struct of them would have a
+// maker for each call, with the proof that the call's own checks give it.
+
 fn check_report<Q, C, P>(
     sizes: Sizes,
     berths: &[Berth<Q>],
@@ -32,6 +37,8 @@ fn check_report<Q, C, P>(
     check_buffer(sizes, bytes)
 }
 
+// Five counts as a tuple: a rule of the project. `bytes[f]`, and no zip with `iter_mut`: after that the check knows
+// nothing of the bytes.
 fn report_files<C: Clock, P: Payload>(
     sizes: Sizes,
     copies: &[Record<C, P>],
@@ -53,11 +60,11 @@ fn report_files<C: Clock, P: Payload>(
             twins += 1;
         }
     }
-    let told = &bytes[..sizes.files];
-    let equal = count_verdict(told, Verdict::Equal);
-    let stale = count_verdict(told, Verdict::Stale);
-    let ahead = count_verdict(told, Verdict::Ahead);
-    let conflicts = count_verdict(told, Verdict::Conflict);
+    let written = &bytes[..sizes.files];
+    let equal = count_verdict(written, Verdict::Equal);
+    let stale = count_verdict(written, Verdict::Stale);
+    let ahead = count_verdict(written, Verdict::Ahead);
+    let conflicts = count_verdict(written, Verdict::Conflict);
     (equal, stale, ahead, conflicts, twins)
 }
 
