@@ -18,11 +18,6 @@ passed_first [] q = refl
 passed_first (Some d ∷ l) q = let z : ◌≡◌ {A = ℕ} 0 1 = cc in absurd (omega arith)
 passed_first (None ∷ l) q = passed_first l q
 
-pub append_some : (l k : List (Option Fault)) (e : Fault) → first l ≡ Some e → first (l ++ k) ≡ Some e
-append_some [] k e q = let z : ◌≡◌ {A = ℕ} 0 1 = cc in absurd (omega arith)
-append_some (Some d ∷ l) k e q = q
-append_some (None ∷ l) k e q = append_some l k e q
-
 pub append_none : (l k : List (Option Fault)) → first l ≡ None → first (l ++ k) ≡ first k
 append_none [] k q = refl
 append_none (Some d ∷ l) k q = let z : ◌≡◌ {A = ℕ} 0 1 = cc in absurd (omega arith)
@@ -53,16 +48,9 @@ module _ {Pen C P A : Type 0} (bs : List (Berth Pen)) (cs : List (Record C P)) (
   pub accepted : (o : Option Fault) → o ≡ None → done ≡ unless bs cs bytes o done
   accepted o d = ap (λ (y : Option Fault). unless bs cs bytes y done) (sym d)
 
-pub passing_err : (o : Option Fault) (e : Fault) → Err e ≡ passing o → o ≡ Some e
-passing_err (Some d) e q = let z : e ≡ d = cc in ap Some (sym z)
-passing_err None e q = let z : ◌≡◌ {A = ℕ} 0 1 = cc in absurd (omega arith)
-
 pub passing_ok : (o : Option Fault) → Ok tt ≡ passing o → o ≡ None
 passing_ok (Some d) q = let z : ◌≡◌ {A = ℕ} 0 1 = cc in absurd (omega arith)
 passing_ok None q = refl
-
-pub head_some : (o : Option Fault) (l : List (Option Fault)) (e : Fault) → o ≡ Some e → first (o ∷ l) ≡ Some e
-head_some o l e q = ap (λ (z : Option Fault). first (z ∷ l)) q
 
 pub head-none : (o : Option Fault) (l : List (Option Fault)) → o ≡ None → first (o ∷ l) ≡ first l
 head-none o l q = ap (λ (z : Option Fault). first (z ∷ l)) q
