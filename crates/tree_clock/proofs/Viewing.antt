@@ -1,5 +1,5 @@
 -- What `Tree` reads of the nodes behind it.
-use Rattle.std.proofs.Common.{◌≡◌, ◌≢◌, ℕ, ◌+◌, ◌-◌, ◌<◌, ◌≤◌, Bool, true, false, ◌↔◌, List, ◌++◌, length, take, drop, ◌==◌, refl, sym, ap, ◌∙◌, ap₂, arith, length-take, take_at, drop_at, ne_eqb}
+use Rattle.std.proofs.Common.{◌≡◌, ◌≢◌, ℕ, ◌+◌, ◌-◌, ◌<◌, ◌≤◌, Bool, true, false, ◌↔◌, List, ◌++◌, length, take, drop, ◌==◌, refl, sym, ap, ◌∙◌, ap₂, arith, length-take, take_at, ne_eqb}
 use borrow.Rule.Slice.PartMut.{post_of}
 use Rattle.std.specs.Bool.{Decides}
 use Rattle.std.specs.Ordering.{eq_of_both, on}
@@ -90,8 +90,3 @@ module _ (o : List Node) (n : ℕ) (e : Event) (w : Stands o n e) where
 
 pub put_stands : (s ys o : List Node) (e : Event) → s ≡ flat e → ys ≡ s → Stands (ys ++ post_of 0 (length s - 0) o) (length s) e
 put_stands s ys o e p q = (rw q (take_at s _ (length s) refl) ∙ p, long s e p)
-
-pub put_rest : (s ys o : List Node) → ys ≡ s → drop (length s) (ys ++ post_of 0 (length s - 0) o) ≡ drop (length s) o
-put_rest s ys o q =
-    let m : length s - 0 ≡ length s = omega arith in
-    rw (q, m) (drop_at s _ (length s) refl)

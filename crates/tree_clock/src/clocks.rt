@@ -15,11 +15,14 @@ use clock::{Cause, Fault, Verdict};
 
 /// A clock of the tree kind: an event tree, which says how many marks are known
 /// at each of the 4,096 places. Only this crate makes one.
+// It and `TreePen` are two structs, so that a clock cannot be taken for a pen.
 #[derive(Clone, Copy, PartialEq, Eq, Debug)]
 pub struct TreeClock {
     pub(crate) stored: Stored,
 }
 
+// That a clock is well made stands in clauses: pens and clocks are plain data with no invariant in
+// their types, a rule of the project.
 impl TreeClock {
     // The clock that holds a tree.
     pub(crate) fn of(tree: &Tree) -> TreeClock

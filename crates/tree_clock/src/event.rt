@@ -42,7 +42,8 @@ impl TreeClock {
     }
 }
 
-// The tree grown under the id, or its refusal.
+// The tree grown under the id, or its refusal. Here and below an id and a tree are two
+// parameters: a pen's id and a clock's tree are two things.
 #[tactic(auto, using(crate::proofs::Public::grows))]
 fn grown(id: IdTree, e: Tree) -> Result<TreeClock, Fault>
     requires id { NormalId id × (id_depth id ≤ 12) × (is_off id ≡ false) }

@@ -12,6 +12,8 @@ const ONE: [Node; 1] = [Node { base: 1, size: 1 }];
 
 // An event tree that lies in an array. A clause sees the tree. A model with a
 // lifetime cannot be `Copy`, so a view that is wanted twice is taken twice.
+// A view is of any tree or id, also of one that is being built: `top e ≤ 65535`, `Normal` and
+// `NormalId` hold only of stored ones, so they stand in contracts.
 #[derive(Drop)]
 pub(crate) struct Tree<'a> {
     nodes: &'a [Node],
@@ -72,7 +74,7 @@ impl<'a> Tree<'a> {
         self.nodes[0].size == 1
     }
 
-    // The lower branch; that of a leaf is 0.
+    // The lower branch; that of a leaf is 0. Lower and upper are two words of the rules.
     #[inline]
     pub(crate) fn lower(&self) -> Tree<'a>
         ensures { result ≡ lo self.now }
