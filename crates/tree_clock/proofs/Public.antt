@@ -29,7 +29,8 @@ use Rattle.tree_clock.specs.Operations.{unite_answer, event_answer, covers_answe
 use Rattle.tree_clock.specs.Reading.{clock_facts, clock_is, pen_facts, pen_is, pen_id}
 use Rattle.tree_clock.specs.Stored.{id_of, event_of, pen_of, clock_of, pen_made, clock_made, SameMakes, SameKnows, tree_kind}
 use Rattle.tree_clock.specs.StoredSound.{same_marks, tree_kind_sound}
-use Rattle.tree_clock.specs.Trees.{as_id, as_id-shape}
+use Rattle.tree_clock.specs.Trees.{same_event, as_id, as_id-shape}
+use Rattle.tree_clock.proofs.Viewing.{one_event}
 
 -- an id as the tree that is its shape
 pub ruleset shapes = (join-shape, size-shape, top-shape, as_id-shape)
@@ -50,9 +51,12 @@ half_fits p h i j q e q' u = rw q' (fits u)
     fits true = (made_id _ (fork (id_of p) (pen_id p h) none-due).second_made).2
 
 -- two pens, or two clocks, are one where what they hold is
-module _ (p q : TreePen) (h : Yes (pen_made p)) (g : Yes (pen_made q)) (r : Bool) (s t : Event) (v : s ≡ shape (id_of p)) (w : t ≡ shape (id_of q)) (e : (r ≡ true) ↔ (s ≡ t)) where
+module _ (p q : TreePen) (h : Yes (pen_made p)) (g : Yes (pen_made q)) (r : Bool) (s t : Event) (v : s ≡ shape (id_of p)) (w : t ≡ shape (id_of q)) (z : r ≡ same_event s t) where
+  shapes_one : (r ≡ true) ↔ (s ≡ t)
+  shapes_one = one_event s t r z
+
   pub same-stored : (r ≡ true) ↔ (p ≡ q)
-  same-stored = (λ k. pen_is p h ∙ ap pen_of (shape_injective _ _ (sym v ∙ e.0 k ∙ w)) ∙ sym (pen_is q g), λ k. e.1 (v ∙ ap (λ (x : TreePen). shape (id_of x)) k ∙ sym w))
+  same-stored = (λ k. pen_is p h ∙ ap pen_of (shape_injective _ _ (sym v ∙ shapes_one.0 k ∙ w)) ∙ sym (pen_is q g), λ k. shapes_one.1 (v ∙ ap (λ (x : TreePen). shape (id_of x)) k ∙ sym w))
 
   pub same_making : (r ≡ true) ↔ SameMakes p q
   same_making =
@@ -60,9 +64,12 @@ module _ (p q : TreePen) (h : Yes (pen_made p)) (g : Yes (pen_made q)) (r : Bool
       (λ k. m.0 (same-stored.0 k), λ s. same-stored.1 (m.1 s))
 
 module _ (c d : TreeClock) (h : Yes (clock_made c)) (g : Yes (clock_made d)) where
-  module _ (r : Bool) (s t : Event) (v : s ≡ event_of c) (w : t ≡ event_of d) (e : (r ≡ true) ↔ (s ≡ t)) where
+  module _ (r : Bool) (s t : Event) (v : s ≡ event_of c) (w : t ≡ event_of d) (z : r ≡ same_event s t) where
+    events_one : (r ≡ true) ↔ (s ≡ t)
+    events_one = one_event s t r z
+
     pub clock_stored : (r ≡ true) ↔ (c ≡ d)
-    clock_stored = (λ k. clock_is c h ∙ ap clock_of (sym v ∙ e.0 k ∙ w) ∙ sym (clock_is d g), λ k. e.1 (v ∙ ap event_of k ∙ sym w))
+    clock_stored = (λ k. clock_is c h ∙ ap clock_of (sym v ∙ events_one.0 k ∙ w) ∙ sym (clock_is d g), λ k. events_one.1 (v ∙ ap event_of k ∙ sym w))
 
     pub clock_knowing : (r ≡ true) ↔ SameKnows c d
     clock_knowing =

@@ -83,7 +83,7 @@ impl TreeClock {
         ensures marks { (result ≡ true) ↔ SameKnows self.now other.now }
     {
         // the tree's own nodes alone, and not the fillers behind them as `==` does
-        self.tree().same(&other.tree())
+        self.tree() == other.tree()
     }
 
     /// The verdict on this clock against the other.

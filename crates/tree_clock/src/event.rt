@@ -35,7 +35,7 @@ impl TreeClock {
         let mut out: [Node; ROOM] = fillers();
         let n = fill_into(pen.id(), self.tree(), &mut out);
         let filled = Tree::front(&out, n);
-        if filled.same(&self.tree()) {
+        if filled == self.tree() {
             return grown(pen.id(), self.tree());
         }
         Ok(TreeClock::of(&filled))

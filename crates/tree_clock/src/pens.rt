@@ -108,7 +108,7 @@ impl TreePen {
         ensures marks { (result ≡ true) ↔ SameMakes self.now other.now }
     {
         // the id's own nodes alone, and not the fillers behind them as `==` does
-        self.id().tree().same(&other.id().tree())
+        self.id().tree() == other.id().tree()
     }
 }
 
