@@ -1,7 +1,10 @@
 -- What the public operations on pens and clocks share.
 use Rattle.std.proofs.Common.{◌≡◌, ◌≤◌, Bool, true, false, ◌↔◌, Ok, None, Result, sym, ap, ◌∙◌, arith, le-ltb}
 use Rattle.clock.specs.declared.faults.Fault.{Fault}
+use Rattle.clock.specs.declared.verdicts.Verdict.{Verdict}
 use Rattle.clock.specs.declared.verdicts.Verdict.TheVariants.{Equal}
+use Rattle.clock.specs.Compare.{ComparesMarks}
+use Rattle.clock.proofs.Comparing.{compares_marks}
 use Rattle.clock.specs.Answers.{answered}
 use Rattle.clock.specs.Meaning.{Yes}
 use Rattle.clock.specs.Sound.{Within}
@@ -93,6 +96,9 @@ module _ (c d : TreeClock) (h : Yes (clock_made c)) (g : Yes (clock_made d)) whe
   equal_verdict p =
       let a = (tree_kind_sound.covers c c h h).1 (λ l s k. k) in
       rw (← p, a)
+
+  pub compared : (v : Verdict) → v ≡ verdict_answer c d → ComparesMarks tree_kind c d v
+  compared v e = rw e (compares_marks tree_kind tree_kind_sound c d h g)
 
 -- the union of two pens that do not meet, t being the join of their shapes
 module _ (p q : TreePen) (h : Yes (pen_made p)) (g : Yes (pen_made q)) (v : false ≡ overlap (id_of p) (id_of q)) (t : Event) (j : t ≡ join (shape (id_of p)) (shape (id_of q))) where

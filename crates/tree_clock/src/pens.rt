@@ -107,7 +107,7 @@ impl TreePen {
         ensures stored { (result ≡ true) ↔ (self.now ≡ other.now) }
         ensures marks { (result ≡ true) ↔ SameMakes self.now other.now }
     {
-        // the id's own nodes alone, and not the fillers behind them as `==` does
+        // not `self == other`, which reads the fillers too: the times stand at `TreeClock::same`
         self.id().tree() == other.id().tree()
     }
 }

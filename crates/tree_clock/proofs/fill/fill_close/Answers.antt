@@ -1,22 +1,16 @@
-use Rattle.std.proofs.Common.{◌∙◌, sym, ap, arith}
+use Rattle.std.proofs.Common.{◌∙◌, sym, ap}
 use Rattle.tree_rules.specs.Ids.{is_on}
 use Rattle.tree_clock.specs.Trees.{id_lo, id_hi}
-use Rattle.tree_clock.proofs.Closing.{laid_long, laid_mid}
+use Rattle.tree_clock.proofs.Closing.{one_inside, mid_inside}
 use Rattle.tree_clock.proofs.Filling.{raises_lower, raises_upper, raises_none, raised_closes, raised_stands}
 use Rattle.tree_clock.proofs.fill.fill_close.Goals as goal
 use Rattle.tree_clock.proofs.fill.fill_close.Goals.{then-is_one, else-is_one+then-is_one-2, else-is_one+else-is_one-2}
 
 pub raise-requires : goal.raise-requires
-raise-requires c =
-    let a = laid_long _ _ _ _ _ c.requires.2.0 in
-    let b = laid_mid _ _ _ _ _ c.requires.2.0 in
-    (omega arith, omega arith)
+raise-requires c = (one_inside _ _ _ _ _ c.requires.2.0, mid_inside _ _ _ _ _ c.requires.2.0)
 
 pub raise-requires-then-is_one-2 : goal.raise-requires-then-is_one-2
-raise-requires-then-is_one-2 c =
-    let a = laid_long _ _ _ _ _ c.requires.2.0 in
-    let b = laid_mid _ _ _ _ _ c.requires.2.0 in
-    (omega arith, omega arith)
+raise-requires-then-is_one-2 c = (mid_inside _ _ _ _ _ c.requires.2.0, one_inside _ _ _ _ _ c.requires.2.0)
 
 pub close-requires : goal.close-requires
 close-requires c =
