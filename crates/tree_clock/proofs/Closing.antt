@@ -45,6 +45,13 @@ module _ (o : List Node) (mid end : ℕ) where
   pub laid_mid : (l r : Event) → Laid o mid end l r → (1 < mid) × (mid < end)
   laid_mid l r (x, rest, p, j, k) = (omega (arith, size_pos l), omega (arith, size_pos r))
 
+  -- both roots lie in o
+  pub one_inside : (l r : Event) → Laid o mid end l r → 1 < length o
+  one_inside l r w = omega (arith, laid_long l r w, laid_mid l r w)
+
+  pub mid_inside : (l r : Event) → Laid o mid end l r → mid < length o
+  mid_inside l r w = omega (arith, laid_long l r w, laid_mid l r w)
+
   pub at_one : (l r : Event) → Laid o mid end l r → get_or o 1 filler ≡ first (flat l)
   at_one (leaf n) r (x, rest, p, j, k) = rw p
   at_one (node n s t) r (x, rest, p, j, k) = rw p

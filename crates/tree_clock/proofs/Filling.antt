@@ -40,7 +40,7 @@ module _ (o : List Node) (mid end n : ℕ) where
     pub is : filled s t n l r l r ≡ norm n lower upper
     pub most : top lower ≤ max (top l) (top r)
 
-  abbrev Raises : Bool → Bool → List Node → Type 0
+  abbrev pub Raises : Bool → Bool → List Node → Type 0
   Raises s t o' = (l r : Event) → Sides o mid end s t l r → Raised s t l r o'
 
   pub raises_lower : (s t : Bool) (o' : List Node) → s ≡ true → ((end c : ℕ) (r : Event) → ◌≡◌ {A = ℕ} 1 1 → Laid o mid end (leaf c) r → Laid o' mid end (leaf (max c (base r))) r) → Raises s t o'

@@ -1,7 +1,10 @@
 -- What the public operations on pens and clocks share.
 use Rattle.std.proofs.Common.{◌≡◌, ◌≤◌, Bool, true, false, ◌↔◌, Ok, None, Result, sym, ap, ◌∙◌, arith, le-ltb}
 use Rattle.clock.specs.declared.faults.Fault.{Fault}
+use Rattle.clock.specs.declared.verdicts.Verdict.{Verdict}
 use Rattle.clock.specs.declared.verdicts.Verdict.TheVariants.{Equal}
+use Rattle.clock.specs.Compare.{ComparesMarks}
+use Rattle.clock.proofs.Comparing.{compares_marks}
 use Rattle.clock.specs.Answers.{answered}
 use Rattle.clock.specs.Meaning.{Yes}
 use Rattle.clock.specs.Sound.{Within}
@@ -29,7 +32,8 @@ use Rattle.tree_clock.specs.Operations.{unite_answer, event_answer, covers_answe
 use Rattle.tree_clock.specs.Reading.{clock_facts, clock_is, pen_facts, pen_is, pen_id}
 use Rattle.tree_clock.specs.Stored.{id_of, event_of, pen_of, clock_of, pen_made, clock_made, SameMakes, SameKnows, tree_kind}
 use Rattle.tree_clock.specs.StoredSound.{same_marks, tree_kind_sound}
-use Rattle.tree_clock.specs.Trees.{as_id, as_id-shape}
+use Rattle.tree_clock.specs.Trees.{same_event, as_id, as_id-shape}
+use Rattle.tree_clock.proofs.Viewing.{one_event}
 
 -- an id as the tree that is its shape
 pub ruleset shapes = (join-shape, size-shape, top-shape, as_id-shape)
@@ -50,9 +54,12 @@ half_fits p h i j q e q' u = rw q' (fits u)
     fits true = (made_id _ (fork (id_of p) (pen_id p h) none-due).second_made).2
 
 -- two pens, or two clocks, are one where what they hold is
-module _ (p q : TreePen) (h : Yes (pen_made p)) (g : Yes (pen_made q)) (r : Bool) (s t : Event) (v : s ≡ shape (id_of p)) (w : t ≡ shape (id_of q)) (e : (r ≡ true) ↔ (s ≡ t)) where
+module _ (p q : TreePen) (h : Yes (pen_made p)) (g : Yes (pen_made q)) (r : Bool) (s t : Event) (v : s ≡ shape (id_of p)) (w : t ≡ shape (id_of q)) (z : r ≡ same_event s t) where
+  shapes_one : (r ≡ true) ↔ (s ≡ t)
+  shapes_one = one_event s t r z
+
   pub same-stored : (r ≡ true) ↔ (p ≡ q)
-  same-stored = (λ k. pen_is p h ∙ ap pen_of (shape_injective _ _ (sym v ∙ e.0 k ∙ w)) ∙ sym (pen_is q g), λ k. e.1 (v ∙ ap (λ (x : TreePen). shape (id_of x)) k ∙ sym w))
+  same-stored = (λ k. pen_is p h ∙ ap pen_of (shape_injective _ _ (sym v ∙ shapes_one.0 k ∙ w)) ∙ sym (pen_is q g), λ k. shapes_one.1 (v ∙ ap (λ (x : TreePen). shape (id_of x)) k ∙ sym w))
 
   pub same_making : (r ≡ true) ↔ SameMakes p q
   same_making =
@@ -60,9 +67,12 @@ module _ (p q : TreePen) (h : Yes (pen_made p)) (g : Yes (pen_made q)) (r : Bool
       (λ k. m.0 (same-stored.0 k), λ s. same-stored.1 (m.1 s))
 
 module _ (c d : TreeClock) (h : Yes (clock_made c)) (g : Yes (clock_made d)) where
-  module _ (r : Bool) (s t : Event) (v : s ≡ event_of c) (w : t ≡ event_of d) (e : (r ≡ true) ↔ (s ≡ t)) where
+  module _ (r : Bool) (s t : Event) (v : s ≡ event_of c) (w : t ≡ event_of d) (z : r ≡ same_event s t) where
+    events_one : (r ≡ true) ↔ (s ≡ t)
+    events_one = one_event s t r z
+
     pub clock_stored : (r ≡ true) ↔ (c ≡ d)
-    clock_stored = (λ k. clock_is c h ∙ ap clock_of (sym v ∙ e.0 k ∙ w) ∙ sym (clock_is d g), λ k. e.1 (v ∙ ap event_of k ∙ sym w))
+    clock_stored = (λ k. clock_is c h ∙ ap clock_of (sym v ∙ events_one.0 k ∙ w) ∙ sym (clock_is d g), λ k. events_one.1 (v ∙ ap event_of k ∙ sym w))
 
     pub clock_knowing : (r ≡ true) ↔ SameKnows c d
     clock_knowing =
@@ -86,6 +96,9 @@ module _ (c d : TreeClock) (h : Yes (clock_made c)) (g : Yes (clock_made d)) whe
   equal_verdict p =
       let a = (tree_kind_sound.covers c c h h).1 (λ l s k. k) in
       rw (← p, a)
+
+  pub compared : (v : Verdict) → v ≡ verdict_answer c d → ComparesMarks tree_kind c d v
+  compared v e = rw e (compares_marks tree_kind tree_kind_sound c d h g)
 
 -- the union of two pens that do not meet, t being the join of their shapes
 module _ (p q : TreePen) (h : Yes (pen_made p)) (g : Yes (pen_made q)) (v : false ≡ overlap (id_of p) (id_of q)) (t : Event) (j : t ≡ join (shape (id_of p)) (shape (id_of q))) where

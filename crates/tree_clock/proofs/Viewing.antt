@@ -1,9 +1,8 @@
 -- What `Tree` reads of the nodes behind it.
-use Rattle.std.proofs.Common.{◌≡◌, ◌≢◌, ℕ, ◌+◌, ◌-◌, ◌<◌, ◌≤◌, Bool, true, false, ◌↔◌, List, ◌++◌, length, take, drop, ◌==◌, refl, sym, ap, ◌∙◌, ap₂, arith, length-take, take_at, drop_at, ne_eqb}
+use Rattle.std.proofs.Common.{◌≡◌, ◌≢◌, ℕ, ◌+◌, ◌-◌, ◌<◌, ◌≤◌, Bool, true, false, ◌↔◌, List, ◌++◌, length, take, drop, ◌==◌, refl, sym, ap, ◌∙◌, ap₂, arith, length-take, take_at, ne_eqb}
 use borrow.Rule.Slice.PartMut.{post_of}
 use Rattle.std.specs.Bool.{Decides}
 use Rattle.std.specs.Ordering.{eq_of_both, on}
-use Rattle.std.specs.Cmp.Lexicographic.{pointwise}
 use Rattle.std.proofs.lemmas.Bool.{false≢true, and_parts, and_from, eqb-true, eq-eqb}
 use Rattle.std.proofs.lemmas.Slice.Eq.{slice_eq-Decides}
 use Rattle.std.proofs.Math.Dec.{eqb}
@@ -12,7 +11,7 @@ use Rattle.tree_rules.proofs.Norms.{size_pos}
 use Rattle.tree_clock.specs.declared.nodes.Node.{Node}
 use Rattle.tree_clock.specs.Flat.{flat, Stands}
 use Rattle.tree_clock.specs.FlatForm.{first, second, some, tall, within, lo_some, hi_some, flat_length, size-flat, flat-same, long}
-use Rattle.tree_clock.specs.Trees.{tree_of, is_leaf, holds, whole}
+use Rattle.tree_clock.specs.Trees.{tree_of, same_event, is_leaf, holds, whole}
 
 -- `==` of two nodes says whether they are one
 node_eq-Decides : (x y : Node) → Decides (eq_of_both (on (λ (v : Node). v.base) eqb) (on (λ (v : Node). v.size) eqb) x y) (x ≡ y)
@@ -68,11 +67,11 @@ module _ (s : List Node) (e : Event) (i : s ≡ flat (tree_of s)) (v : tree_of s
     pub high_holds : tree_of high ≡ hi e
     high_holds = holds high (hi e) (hi_some s more e lies)
 
--- two trees are one where their nodes are
-pub tells_equal : (s t : List Node) (e f : Event) → s ≡ flat e → t ≡ flat f → (r : Bool) → r ≡ pointwise (eq_of_both (on (λ (v : Node). v.base) eqb) (on (λ (v : Node). v.size) eqb)) s t → (r ≡ true) ↔ (e ≡ f)
-tells_equal s t e f p q r w =
-    let d = slice_eq-Decides node_eq-Decides s t r w in
-    (λ k. flat-same e f (sym p ∙ d.0 k ∙ q), λ k. d.1 (p ∙ ap flat k ∙ sym q))
+-- two trees are one where `==` says so
+pub one_event : (e f : Event) (r : Bool) → r ≡ same_event e f → (r ≡ true) ↔ (e ≡ f)
+one_event e f r w =
+    let d = slice_eq-Decides node_eq-Decides (flat e) (flat f) r w in
+    (λ k. flat-same e f (d.0 k), λ k. d.1 (ap flat k))
 
 -- a tree at the front of a list
 module _ (o : List Node) (n : ℕ) (e : Event) (w : Stands o n e) where
@@ -90,8 +89,3 @@ module _ (o : List Node) (n : ℕ) (e : Event) (w : Stands o n e) where
 
 pub put_stands : (s ys o : List Node) (e : Event) → s ≡ flat e → ys ≡ s → Stands (ys ++ post_of 0 (length s - 0) o) (length s) e
 put_stands s ys o e p q = (rw q (take_at s _ (length s) refl) ∙ p, long s e p)
-
-pub put_rest : (s ys o : List Node) → ys ≡ s → drop (length s) (ys ++ post_of 0 (length s - 0) o) ≡ drop (length s) o
-put_rest s ys o q =
-    let m : length s - 0 ≡ length s = omega arith in
-    rw (q, m) (drop_at s _ (length s) refl)

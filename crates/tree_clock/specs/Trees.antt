@@ -9,7 +9,10 @@
 -- id_lo, id_hi    the sides of an id, a 0 or 1 having 0 on both
 -- event_code, id_code
 --                 how a proof tells two trees, or two ids, apart
+-- same_event      the test for one tree
 use Rattle.std.specs.Prelude.{◌≡◌, ℕ, zero, suc, ◌+◌, ◌<◌, Bool, true, false, cond, List, [], ◌∷◌, ◌++◌, length, take, drop, ◌==◌, slice_index_or, refl}
+use Rattle.std.specs.Cmp.Lexicographic.{pointwise}
+use Rattle.std.specs.Ordering.{eq_of_both, on as on_part}
 use Rattle.std.specs.Coded.{Coded, coded×, coded_ℕ, coded_list, code_by}
 use Rattle.std.proofs.Common.{sym, ap, ap₂, ◌∙◌, arith, take_at, drop_at, ne_eqb}
 use Rattle.std.proofs.lemmas.Bool.{cond-false}
@@ -76,6 +79,10 @@ node_code = code_by (ℕ × ℕ) (coded× coded_ℕ coded_ℕ) (λ x. (x.base, x
 -- a tree is stored as its nodes
 abbrev pub event_code : Coded Event
 event_code = coded_via (coded_list node_code) flat flat-same
+
+-- two trees are equal where their nodes are
+abbrev pub same_event : Event → Event → Bool
+same_event = on_part flat (pointwise (eq_of_both (on_part (λ (v : Node). v.base) ◌==◌) (on_part (λ (v : Node). v.size) ◌==◌)))
 
 -- an id is stored as its shape
 abbrev pub id_code : Coded Id

@@ -35,14 +35,15 @@ impl TreeClock {
         let mut out: [Node; ROOM] = fillers();
         let n = fill_into(pen.id(), self.tree(), &mut out);
         let filled = Tree::front(&out, n);
-        if filled.same(&self.tree()) {
+        if filled == self.tree() {
             return grown(pen.id(), self.tree());
         }
         Ok(TreeClock::of(&filled))
     }
 }
 
-// The tree grown under the id, or its refusal.
+// The tree grown under the id, or its refusal. Here and below an id and a tree are two
+// parameters: a pen's id and a clock's tree are two things.
 #[tactic(auto, using(crate::proofs::Public::grows))]
 fn grown(id: IdTree, e: Tree) -> Result<TreeClock, Fault>
     requires id { NormalId id × (id_depth id ≤ 12) × (is_off id ≡ false) }

@@ -49,6 +49,8 @@ pub(crate) fn growth_cost(id: IdTree, e: Tree, left: u8) -> u32
 // Grows `e` under the id, at the front of `out`. The answer is the size of the
 // grown tree and the value of the leaf that grew, `up` being the sum of the bases
 // above; at 65,536 that value is past the limit, and the tree does not stand in `out`.
+// No Result: 15 is tried before 16, so the size is asked even where the value is past the limit.
+// A rule of the project: the leaf rule and the pair rule are two functions that call one another.
 #[cycle(grow_leaf_grow_pair)]
 #[tactic(auto, using(crate::proofs::GrowCode::growing))]
 pub(crate) fn grow_leaf(id: IdTree, e: Tree, up: u32, left: u8, out: &mut [Node]) -> (usize, u32)

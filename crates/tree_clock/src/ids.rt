@@ -39,7 +39,7 @@ impl<'a> IdTree<'a> {
         IdTree { tree }
     }
 
-    // The id 0.
+    // The id 0. It and 1 are two functions, as 0 and 1 are two words of the rules.
     pub(crate) fn zero() -> IdTree<'static>
         ensures { result ≡ off }
     {
@@ -68,7 +68,7 @@ impl<'a> IdTree<'a> {
         self.tree.is_leaf()
     }
 
-    // The tests for 0 and 1 are two functions, as they are two words of the rules.
+    // Whether the id is 0. The tests for 0 and 1 are two functions, as they are two words of the rules.
     #[inline]
     pub(crate) fn is_zero(&self) -> bool
         ensures { result ≡ is_off self.now }
@@ -76,6 +76,7 @@ impl<'a> IdTree<'a> {
         self.tree.is_leaf() && self.tree.base() == 0
     }
 
+    // Whether the id is 1.
     #[inline]
     pub(crate) fn is_one(&self) -> bool
         ensures { result ≡ is_on self.now }
@@ -83,7 +84,7 @@ impl<'a> IdTree<'a> {
         self.tree.is_leaf() && self.tree.base() == 1
     }
 
-    // The lower side; that of 0 and 1 is 0.
+    // The lower side; that of 0 and 1 is 0. Lower and upper are two words of the rules.
     #[inline]
     pub(crate) fn lower(&self) -> IdTree<'a>
         ensures { result ≡ id_lo self.now }

@@ -19,8 +19,9 @@ pub(crate) const MOST_VALUE: u32 = 65535;
 // Room for any operation: a join of two trees has at most 125 nodes.
 pub(crate) const ROOM: usize = 125;
 
-// What is written stands at the front of a slice that the caller lends, which answers its size: there is no
-// heap to grow into. The slice's length and its places are bounded by each contract, since no type of ours holds it.
+// A tree is written to the front of a slice that the caller lends, and the function answers its size: a
+// returned array is copied at every level (in prototypes join into a slice was 7 to 12 times faster). The
+// slice's length and its places are bounded by each contract, since no type of ours holds it.
 
 // Writes a leaf at the front of `out` and answers its size, 1.
 pub(crate) fn leaf_into(value: u16, out: &mut [Node]) -> usize

@@ -18,11 +18,14 @@ use clock::{Cause, Fault};
 
 /// A pen of the tree kind: an id, which says at which of the 4,096 places marks
 /// may be made. Only this crate makes one.
+// It and `TreeClock` are two structs, so that a pen cannot be taken for a clock.
 #[derive(Clone, Copy, PartialEq, Eq, Debug)]
 pub struct TreePen {
     pub(crate) stored: Stored,
 }
 
+// That a pen is well made stands in clauses: pens and clocks are plain data with no invariant in
+// their types, a rule of the project.
 impl TreePen {
     // The pen that holds an id.
     #[tactic(auto, using(crate::proofs::Public::shapes))]
@@ -44,6 +47,7 @@ impl TreePen {
         IdTree::of(self.stored.tree())
     }
 
+    // `seed` and `none` are two functions, as they are two words of the rules.
     /// The id 1: every place.
     pub fn seed() -> TreePen
         ensures result { result ≡ pen_of on }
@@ -103,8 +107,8 @@ impl TreePen {
         ensures stored { (result ≡ true) ↔ (self.now ≡ other.now) }
         ensures marks { (result ≡ true) ↔ SameMakes self.now other.now }
     {
-        // the id's own nodes alone, and not the fillers behind them as `==` does
-        self.id().tree().same(&other.id().tree())
+        // not `self == other`, which reads the fillers too: the times stand at `TreeClock::same`
+        self.id().tree() == other.id().tree()
     }
 }
 

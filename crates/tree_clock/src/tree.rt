@@ -1,7 +1,9 @@
-ghost use Rattle.std.specs.Prelude.{◌≡◌, ◌≤◌, ◌↔◌, true, length, drop};
+ghost use Rattle.std.specs.Prelude.{◌≡◌, ◌≤◌, length, drop};
+ghost use Rattle.std.proofs.Common.{rules};
+ghost use Rattle.std.specs.Cmp.Rules.{comparing};
 ghost use Rattle.tree_rules.specs.Events.{Event, leaf, base as base_of, lo, hi, size as size_of};
 ghost use Rattle.tree_clock.specs.Flat.{flat, Stands};
-ghost use Rattle.tree_clock.specs.Trees.{is_leaf as leaf_test};
+ghost use Rattle.tree_clock.specs.Trees.{same_event, is_leaf as leaf_test};
 
 use crate::nodes::Node;
 use std::marker::Model;
@@ -12,6 +14,8 @@ const ONE: [Node; 1] = [Node { base: 1, size: 1 }];
 
 // An event tree that lies in an array. A clause sees the tree. A model with a
 // lifetime cannot be `Copy`, so a view that is wanted twice is taken twice.
+// A view is of any tree or id, also of one that is being built: `top e ≤ 65535`, `Normal` and
+// `NormalId` hold only of stored ones, so they stand in contracts.
 #[derive(Drop)]
 pub(crate) struct Tree<'a> {
     nodes: &'a [Node],
@@ -30,6 +34,16 @@ impl<'a> Model for Tree<'a> {
     ghost view = { λ t. tree_of t.nodes.now };
 
     ghost invariant = { λ t. t.nodes.now ≡ flat (tree_of t.nodes.now) };
+}
+
+impl<'a> PartialEq for Tree<'a> {
+    ghost eq = { same_event };
+
+    ghost laws = { Prim.search (comparing, rules) depth 9 };
+
+    fn eq(&self, other: &Tree<'a>) -> bool {
+        self.nodes == other.nodes
+    }
 }
 
 impl<'a> Tree<'a> {
@@ -72,7 +86,7 @@ impl<'a> Tree<'a> {
         self.nodes[0].size == 1
     }
 
-    // The lower branch; that of a leaf is 0.
+    // The lower branch; that of a leaf is 0. Lower and upper are two words of the rules.
     #[inline]
     pub(crate) fn lower(&self) -> Tree<'a>
         ensures { result ≡ lo self.now }
@@ -96,13 +110,6 @@ impl<'a> Tree<'a> {
         Tree {
             nodes: &self.nodes[1 + self.nodes[1].size as usize..],
         }
-    }
-
-    // Whether this is the other tree.
-    pub(crate) fn same(&self, other: &Tree) -> bool
-        ensures { (result ≡ true) ↔ (self.now ≡ other.now) }
-    {
-        self.nodes == other.nodes
     }
 
     // Copies the tree to the front of `out` and answers its size.

@@ -1,16 +1,9 @@
-use Rattle.std.proofs.Common.{◌<◌, ◌+◌, ◌∙◌, ap₂, length, arith}
+use Rattle.std.proofs.Common.{◌<◌, ◌∙◌, ap₂, length, arith}
 use Rattle.tree_rules.specs.Grow.{cost, grow}
 use Rattle.tree_rules.proofs.Norms.{size_pos}
-use Rattle.tree_clock.proofs.Writing.{from_long, written_long, written, laid}
-use Rattle.tree_clock.proofs.GrowCode.{lower_grown, upper_grown, id_hi_depth, upper_growth}
+use Rattle.tree_clock.proofs.Writing.{laid}
+use Rattle.tree_clock.proofs.GrowCode.{lower_grown, upper_grown}
 use Rattle.tree_clock.proofs.grow.+grow_leaf_grow_pair.Goals as goal
-
-pub grow_pair-grow_leaf-m-requires : goal.grow_pair-grow_leaf-m-requires
-grow_pair-grow_leaf-m-requires t c =
-    let some : 0 < length c.args.out.now = omega (arith, c.requires.given.room, size_pos (grow c.args.id c.args.e)) in
-    let o = written c.args.out.now 1 c.put-mid.new.out in
-    let n = c.put-mid.ensures.stands.1 in
-    (omega (arith, id_hi_depth c.args.id c.requires.pair, c.requires.given.deep), upper_growth c.args.id c.args.e c.requires.pair _ c.base-base.ensures _ _ (c.growth_cost-low.ensures.cost ∙ ap₂ cost c.lower.ensures c.lower-2.ensures) (c.growth_cost-high.ensures.cost ∙ ap₂ cost c.upper.ensures c.upper-2.ensures) c.if-lower_grows.ensures _ _ _ c.upper-else-lower_grows.ensures c.lower-else-lower_grows.ensures c.upper-else-lower_grows-2.ensures _ _ _ _ c.requires.given (omega (arith, from_long o (1 + c.put-mid.result), written_long c.args.out.now _ 1 some c.put-mid.ensures.long)))
 
 pub grow_pair-returns-then-lower_grows-clause-stands : goal.grow_pair-returns-then-lower_grows-clause-stands
 grow_pair-returns-then-lower_grows-clause-stands t c = λ h.

@@ -8,6 +8,6 @@ returns c =
     let v = c.tree.ensures ∙ ap shape c.id.ensures.id in
     let w = c.tree-2.ensures ∙ ap shape c.id-2.ensures.id in
     record {
-      stored = same-stored _ _ c.requires.made.0 c.requires.made.1 _ _ _ v w c.same.ensures;
-      marks = same_making _ _ c.requires.made.0 c.requires.made.1 _ _ _ v w c.same.ensures;
+      stored = same-stored _ _ c.requires.made.0 c.requires.made.1 _ _ _ v w c.eq.ensures;
+      marks = same_making _ _ c.requires.made.0 c.requires.made.1 _ _ _ v w c.eq.ensures;
     }

@@ -1,5 +1,5 @@
 use Rattle.std.proofs.Common.{arith}
-use Rattle.tree_clock.proofs.Viewing.{lies, lies_long, put_stands, put_rest}
+use Rattle.tree_clock.proofs.Viewing.{lies, lies_long, put_stands}
 use Rattle.tree_clock.proofs.tree.Tree.put.Goals as goal
 
 pub slice_bounds-copy_from_slice-end : goal.slice_bounds-copy_from_slice-end
@@ -7,6 +7,3 @@ slice_bounds-copy_from_slice-end c = omega (arith, lies_long _ _ c.self.invarian
 
 pub returns-clause-stands : goal.returns-clause-stands
 returns-clause-stands c = put_stands _ _ _ _ (lies _ _ c.self.invariant c.self.view_is) c.copy_from_slice.ensures.after
-
-pub returns-clause-rest : goal.returns-clause-rest
-returns-clause-rest c = put_rest _ _ _ c.copy_from_slice.ensures.after
