@@ -87,6 +87,7 @@ fn read_digest(text: &str) -> Result<[u8; 32], TicketError>
         return Err(TicketError::NotDigest);
     }
     let mut digest = [0; 32];
+    // By number, and no zip of the pairs with `iter_mut`: after that the check knows nothing of the bytes.
     for (i, byte) in digest.iter_mut().enumerate() {
         *byte = 16 * read_digit(digits[2 * i])? + read_digit(digits[2 * i + 1])?;
     }

@@ -36,6 +36,7 @@ impl<'a> Model for Tree<'a> {
     ghost invariant = { λ t. t.nodes.now ≡ flat (tree_of t.nodes.now) };
 }
 
+// By hand: a type with a model and a lifetime takes no derived `==`.
 impl<'a> PartialEq for Tree<'a> {
     ghost eq = { same_event };
 

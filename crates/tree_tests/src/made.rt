@@ -108,7 +108,8 @@ impl MadeClock {
     }
 }
 
-// The number of the cause with which an answer is refused.
+// The number of the cause with which an answer is refused: the expected values are
+// numbers. Its twin of the vectors' tests stands in another crate.
 pub fn refused_with<T: Drop>(answer: Result<T, Fault>) -> Option<u8> {
     answer.err().map(|fault| u8::from(fault.cause))
 }

@@ -16,6 +16,8 @@ use yard_checks::{
     check_berth, check_buffer, check_sizes, check_two, check_working, count_verdict, row,
 };
 
+// `Ready` ties two berths, the sizes and a lent table: no one value holds them, and a struct of them would have a
+// maker for each call, with the proof that the call's own checks give it.
 // The pens and clocks of the tables are plain data with no invariant in their types, a rule of the project: so `made`,
 // and what it says of one table, stands on each contract. Two berths, or a berth and a file, are no one thing.
 

@@ -8,6 +8,8 @@ use clock::{Clock, Verdict};
 use history::{Record, Sizes};
 use yard_checks::row;
 
+// `Ready` ties two berths, the sizes and a lent table: no one value holds them, and a struct of them would have a
+// maker for each call, with the proof that the call's own checks give it.
 // Both rows lie in one table that is lent for writing, so the loop goes over their places and not over their records.
 
 // Record i becomes record j where it is stale against it. The verdict beforehand.
