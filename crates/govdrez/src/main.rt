@@ -1,27 +1,50 @@
-//! Two seasons of one sheet: in the first a copy is only older, in the second two
-//! copies were made apart. Judged by interval tree clocks, and the second season
-//! by vectors too.
+//! Replays a season log: carries out each call of it on a yard, and prints what
+//! the call is answered. `govdrez --help` lists the calls.
 
 #![tactic(auto)]
 
-mod replica;
-mod seasons;
+mod calls;
+mod errors;
+mod help;
+mod kinds;
+mod replays;
+#[cfg(test)]
+mod tests;
+mod yards;
 
-use seasons::{apart, back};
-use tree_clock::TreeClock;
-use vector_clock::VectorClock;
+use crate::help::HELP;
+use crate::replays::replay_log;
+use std::io::BufReader;
+use std::process::ExitCode;
+use std::{env, fs, io};
 
-fn main(rt: HostRuntime) -> anyhow::Result<()> {
-    run(&rt)
+fn main(rt: HostRuntime) -> io::Result<ExitCode> {
+    let alloc = rt.alloc();
+    let mut words = env::args(&rt)?.skip(1);
+    let Some(word) = words.next() else {
+        return replay_log(&rt, BufReader::new(alloc, rt.reader())?);
+    };
+    if words.next().is_some() {
+        eprintln!(rt;
+            "govdrez takes one file, or none to read standard input; see govdrez --help"
+        )?;
+        return Ok(ExitCode::FAILURE);
+    }
+    match word.as_str() {
+        "--help" | "-h" => {
+            rt.print(HELP)?;
+            Ok(ExitCode::SUCCESS)
+        }
+        path => replay_file(&rt, path),
+    }
 }
 
-fn run(rt: &impl Print) -> anyhow::Result<()> {
-    rt.println("One: the launch forks off, edits, and comes back.")?;
-    back::<TreeClock>(rt)?;
-    rt.println("")?;
-    rt.println("Two: launch and bridge each edit from the same start.")?;
-    apart::<TreeClock>(rt)?;
-    rt.println("")?;
-    rt.println("Two again, in vectors.")?;
-    apart::<VectorClock>(rt)
+fn replay_file(rt: &HostRuntime, path: &str) -> io::Result<ExitCode> {
+    match fs::open(rt, path) {
+        Ok(file) => replay_log(rt, BufReader::new(rt.alloc(), file)?),
+        Err(error) => {
+            eprintln!(rt; "govdrez: cannot open '{path}': {error}")?;
+            Ok(ExitCode::FAILURE)
+        }
+    }
 }

@@ -19,6 +19,7 @@ mod tests;
 mod tickets;
 mod valves;
 
+pub use decimals::{DecimalError, decimal};
 pub use kinds::Payload;
 pub use tickets::{Ticket, TicketError};
 pub use valves::{Case, Valve, ValveError};

@@ -1,0 +1,47 @@
+-- What a log is answered for a call, and what the call leaves.
+--
+-- zeros              a buffer before a call writes it
+-- answered g l       what a call leaves, with its answer, and its buffer, in the form that a log prints
+-- read_answer r      what a call that reads is answered
+-- write_left w       what a call that writes is answered and leaves
+use Rattle.std.specs.Prelude.{ℕ, Bool, List, [], Ok, Err, Result}
+use Rattle.std.specs.Prelude.{replicate}
+use Rattle.clock.specs.declared.faults.Fault.{Fault}
+use Rattle.clock.specs.Meaning.{Meaning}
+use Rattle.history.specs.declared.tables.Berth.{Berth}
+use Rattle.history.specs.declared.tables.Record.{Record}
+use Rattle.history.specs.Tables.{Card}
+use Rattle.history.specs.Checks.{Left, left}
+use Rattle.history.specs.Calls.{leaves, judge, report, fork, edit, pull, settle, retire, drop}
+use Rattle.season.specs.Shows.{show_result}
+use Rattle.season_log.specs.declared.answers.Answer.{Answer}
+use Rattle.season_log.specs.declared.answers.Answer.TheVariants.{Done, Judged, Reported, Pulled, Shown}
+use Rattle.season_log.specs.declared.calls.Reading.{Reading}
+use Rattle.season_log.specs.declared.calls.Reading.TheVariants.{Judge, Report, Show}
+use Rattle.season_log.specs.declared.calls.Writing.{Writing}
+use Rattle.season_log.specs.declared.calls.Writing.TheVariants.{Fork, Edit, Pull, Settle, Retire, Drop}
+
+abbrev pub in_form : {A B : Type 0} → (A → B) → Result A Fault → Result B Fault
+in_form g (Ok x) = Ok (g x)
+in_form g (Err e) = Err e
+
+abbrev pub zeros : List ℕ
+zeros = replicate 32 0
+
+module _ {Pen C P : Type 0} where
+  abbrev pub answered : {A : Type 0} → (A → List ℕ → Answer Pen C) → Left Pen C P A → Left Pen C P (Answer Pen C)
+  answered g l = left (in_form (λ x. g x l.bytes) l.answer) l.berths l.copies []
+
+  module _ (m : Meaning Pen C) (alike : P → P → Bool) (card : Card) (bs : List (Berth Pen)) (cs : List (Record C P)) where
+    abbrev pub read_answer : Reading → Result (Answer Pen C) Fault
+    read_answer (Judge a b f) = in_form Judged (leaves m alike (judge card a b f) bs cs).answer
+    read_answer (Report a b) = (answered (λ n bytes. Reported bytes card.files n.0 n.1 n.2 n.3 n.4) (leaves m alike (report card a b zeros) bs cs)).answer
+    read_answer (Show a f) = in_form (λ x. Shown x.0 x.1) (show_result m card bs cs a f)
+
+    abbrev pub write_left : Writing P → Left Pen C P (Answer Pen C)
+    write_left (Fork a b) = answered (λ x bytes. Done) (leaves m alike (fork card a b) bs cs)
+    write_left (Edit a f p) = answered (λ x bytes. Done) (leaves m alike (edit card a f p) bs cs)
+    write_left (Pull a b) = answered (λ n bytes. Pulled bytes card.files n.0 n.1) (leaves m alike (pull card a b zeros) bs cs)
+    write_left (Settle a b f p) = answered (λ x bytes. Done) (leaves m alike (settle card a b f p) bs cs)
+    write_left (Retire a b) = answered (λ x bytes. Done) (leaves m alike (retire card a b) bs cs)
+    write_left (Drop a) = answered (λ x bytes. Done) (leaves m alike (drop card a) bs cs)

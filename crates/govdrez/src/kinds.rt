@@ -1,0 +1,130 @@
+use crate::errors::LineError;
+use crate::yards::{Answered, Yard};
+use clock::Clock;
+use payload::{Payload, Ticket, Valve};
+use season::{OpenError, Season};
+use season_log::{Answer, Call, Kind, Opening, PayloadError, PayloadKind, read_payload};
+use std::alloc::Global;
+use std::fmt::Display;
+use std::io;
+use std::io::Write;
+use std::str::FromStr;
+use tree_clock::TreeClock;
+use vector_clock::VectorClock;
+
+/// The yard of a log, at each clock kind and payload kind.
+#[derive(Drop)]
+pub enum AnyYard {
+    TreeValve(Yard<TreeClock, Valve>),
+    TreeTicket(Yard<TreeClock, Ticket>),
+    VectorValve(Yard<VectorClock, Valve>),
+    VectorTicket(Yard<VectorClock, Ticket>),
+}
+
+impl AnyYard {
+    /// Opens the yard that the words after `open` ask for, and writes the answer.
+    /// There is none after a refusal.
+    pub fn open<'a, W: Write>(
+        alloc: Global,
+        arguments: &[&'a str],
+        out: &mut W,
+    ) -> Result<Option<AnyYard>, LineError<'a>> {
+        let asked = Opening::read(arguments)?;
+        Ok(match (asked.kind, asked.payload) {
+            (Kind::Tree, PayloadKind::Valve) => {
+                open(alloc, &asked, arguments, out)?.map(|yard| AnyYard::TreeValve(yard))
+            }
+            (Kind::Tree, PayloadKind::Ticket) => {
+                open(alloc, &asked, arguments, out)?.map(|yard| AnyYard::TreeTicket(yard))
+            }
+            (Kind::Vector, PayloadKind::Valve) => {
+                open(alloc, &asked, arguments, out)?.map(|yard| AnyYard::VectorValve(yard))
+            }
+            (Kind::Vector, PayloadKind::Ticket) => {
+                open(alloc, &asked, arguments, out)?.map(|yard| AnyYard::VectorTicket(yard))
+            }
+        })
+    }
+
+    /// Carries out the call of this name, and writes the answer.
+    pub fn answer<'a, W: Write>(
+        self,
+        name: &'a str,
+        arguments: &[&'a str],
+        out: &mut W,
+    ) -> Result<AnyYard, LineError<'a>> {
+        Ok(match self {
+            AnyYard::TreeValve(yard) => AnyYard::TreeValve(answer(yard, name, arguments, out)?),
+            AnyYard::TreeTicket(yard) => AnyYard::TreeTicket(answer(yard, name, arguments, out)?),
+            AnyYard::VectorValve(yard) => AnyYard::VectorValve(answer(yard, name, arguments, out)?),
+            AnyYard::VectorTicket(yard) => {
+                AnyYard::VectorTicket(answer(yard, name, arguments, out)?)
+            }
+        })
+    }
+}
+
+fn open<'a, C: Clock + Display, P: Payload + FromStr, W: Write>(
+    alloc: Global,
+    asked: &Opening<'a, '_>,
+    arguments: &[&'a str],
+    out: &mut W,
+) -> Result<Option<Yard<C, P>>, LineError<'a>>
+where
+    C::Pen: Display,
+    PayloadError: From<P::Err>,
+{
+    let mut payloads = Vec::new(alloc);
+    for word in asked.words {
+        payloads.push(read_payload::<P>(word)?)?;
+    }
+    match Season::<_, C, P>::open(alloc, asked.berths, &payloads) {
+        Ok(season) => {
+            write_answer::<C, W>("open", arguments, &Ok(Answer::Opened(season.sizes())), out)?;
+            Ok(Some(Yard::Open(season)))
+        }
+        Err(OpenError::Refused(fault)) => {
+            write_answer::<C, W>("open", arguments, &Err(fault), out)?;
+            Ok(None)
+        }
+        Err(OpenError::OutOfMemory) => {
+            Err(LineError::Io(io::Error::from(io::ErrorKind::OutOfMemory)))
+        }
+    }
+}
+
+fn answer<'a, C: Clock + Display, P: Payload + FromStr, W: Write>(
+    yard: Yard<C, P>,
+    name: &'a str,
+    arguments: &[&'a str],
+    out: &mut W,
+) -> Result<Yard<C, P>, LineError<'a>>
+where
+    C::Pen: Display,
+    PayloadError: From<P::Err>,
+{
+    let call = Call::read(name, arguments)?;
+    let (yard, answered) = yard.carry_out(name, call)?;
+    write_answer(name, arguments, &answered, out)?;
+    Ok(yard)
+}
+
+// The words of the line, a colon, and the answer.
+fn write_answer<C: Clock + Display, W: Write>(
+    name: &str,
+    arguments: &[&str],
+    answered: &Answered<C>,
+    out: &mut W,
+) -> io::Result<()>
+where
+    C::Pen: Display,
+{
+    write!(out, "{name}")?;
+    for word in arguments {
+        write!(out, " {word}")?;
+    }
+    match answered {
+        Ok(answer) => writeln!(out, ": {answer}"),
+        Err(fault) => writeln!(out, ": {fault}"),
+    }
+}

@@ -1,0 +1,4 @@
+pub mod Calls
+pub mod Verdicts
+pub mod Shown
+pub mod Opened

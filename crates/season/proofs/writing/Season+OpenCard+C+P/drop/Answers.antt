@@ -1,0 +1,16 @@
+use Rattle.std.proofs.Common.{rules, ◌≡◌, length, [], refl}
+use Rattle.history.specs.Checks.{left}
+use Rattle.history.specs.Calls.{drop, leaves}
+use Rattle.season.proofs.Calls.{berths_led}
+use Rattle.season.proofs.writing.Season+OpenCard+C+P.drop.Goals as goal
+
+pub invariant_of-self : goal.invariant_of-self
+invariant_of-self g c =
+    let m = g.C.Clock.meaning in
+    let same = g.P.Payload.same in
+    let s = c.args.self.now in
+    let call = drop s.card c.args.a in
+    let l = left c.drop.result c.drop.new.berths s.copies.items [] in
+    let e : l ≡ leaves m same call s.berths.items s.copies.items = search rules in
+    let berths : length c.drop.new.berths ≡ s.berths.len = search rules in
+    record { replayed = berths_led m same s.berths s.copies call l e s.replayed refl berths }

@@ -1,0 +1,17 @@
+ghost use Rattle.std.specs.Prelude.{◌≡◌};
+ghost use Rattle.history.specs.Tables.{Made};
+
+use crate::seasons::Season;
+use clock::Clock;
+use history::history_law;
+use payload::Payload;
+use yard::Card;
+
+impl<K: Card, C: Clock, P: Payload> Season<K, C, P> {
+    // By the law of histories, whatever calls led here: pens and clocks are well made.
+    pub(crate) fn law(&self)
+        ensures made { Made C.meaning self.now.berths.items self.now.copies.items }
+    {
+        history_law::<C, P>()
+    }
+}

@@ -1,0 +1,2 @@
+mod Spelling
+pub mod Complete

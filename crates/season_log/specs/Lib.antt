@@ -1,0 +1,5 @@
+pub mod Words
+pub mod Openings
+pub mod Forms
+pub mod Calls
+pub mod Answers

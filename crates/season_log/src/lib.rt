@@ -1,0 +1,25 @@
+//! A season log's lines: the call that a line asks for, or why it is none, and
+//! the answer as the log prints it.
+//!
+//! A line is some words parted by spaces. Its first names a call, the others are
+//! berths, files and payloads, which are words of the yard's payload kind:
+//!
+//! ```text
+//! Opening::read(&["tree", "valve", "2", "shut", "flow:300"])?    // two berths, two files
+//! Call::<Valve>::read("edit", &["0", "1", "part:40"])?           // Writing::Edit { a: 0, f: 1, payload }
+//! ```
+
+#![tactic(auto)]
+
+mod answers;
+mod calls;
+mod mistakes;
+mod numbers;
+mod openings;
+#[cfg(test)]
+mod tests;
+
+pub use answers::{Answer, Buffer};
+pub use calls::{Call, Reading, Writing, read_payload};
+pub use mistakes::{Mistake, PayloadError};
+pub use openings::{Kind, Opening, PayloadKind};
