@@ -1,9 +1,9 @@
 use crate::errors::LineError;
-use crate::yards::{Answered, Yard};
 use clock::Clock;
 use payload::{Payload, Ticket, Valve};
 use season::{OpenError, Season};
 use season_log::{Answer, Call, Kind, Opening, PayloadError, PayloadKind, read_payload};
+use season_replay::{Answered, Yard};
 use std::alloc::Global;
 use std::fmt::Display;
 use std::io;

@@ -3,14 +3,12 @@
 
 #![tactic(auto)]
 
-mod calls;
 mod errors;
 mod help;
 mod kinds;
 mod replays;
 #[cfg(test)]
 mod tests;
-mod yards;
 
 use crate::help::HELP;
 use crate::replays::replay_log;

@@ -1,3 +1,6 @@
+ghost use Rattle.std.specs.Prelude.{◌≡◌};
+ghost use Rattle.season_log.specs.declared.mistakes.PayloadError.TheVariants.{Valve, Ticket};
+
 use payload::{DecimalError, TicketError, ValveError};
 use std::error::Error;
 use std::fmt;
@@ -7,7 +10,7 @@ use std::fmt;
 pub enum Mistake<'a> {
     /// No call has this name.
     UnknownCall(&'a str),
-    /// The call takes other words than these many; this is how it is written.
+    /// The call takes more words or fewer; this is how it is written.
     WordCount(&'static str),
     /// This is the name of no clock kind.
     UnknownKind(&'a str),
@@ -61,17 +64,23 @@ impl Error for Mistake<'_> {}
 /// Why a word is no payload of its kind.
 #[derive(Clone, Copy, PartialEq, Eq, Debug)]
 pub enum PayloadError {
+    /// It is no valve.
     Valve(ValveError),
+    /// It is no ticket.
     Ticket(TicketError),
 }
 
 impl From<ValveError> for PayloadError {
+    ghost from_gives = { λ error converted. converted ≡ Valve error };
+
     fn from(error: ValveError) -> PayloadError {
         PayloadError::Valve(error)
     }
 }
 
 impl From<TicketError> for PayloadError {
+    ghost from_gives = { λ error converted. converted ≡ Ticket error };
+
     fn from(error: TicketError) -> PayloadError {
         PayloadError::Ticket(error)
     }

@@ -1,7 +1,7 @@
 use Rattle.std.proofs.Common.{rules, ◌≡◌, ◌∙◌, Ok, Err, ap, sym}
 use Rattle.season_log.specs.declared.answers.Answer.TheVariants.{Judged, Reported, Shown}
-use Rattle.govdrez.specs.Carries.{answered, in_form, read_answer}
-use Rattle.govdrez.proofs.calls.read.Goals as goal
+use Rattle.season_replay.specs.Carries.{answered, in_form, read_answer}
+use Rattle.season_replay.proofs.calls.read.Goals as goal
 
 pub returns-in_err-judge-in-Judge : goal.returns-in_err-judge-in-Judge
 returns-in_err-judge-in-Judge g c =

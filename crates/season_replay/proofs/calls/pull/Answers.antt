@@ -1,8 +1,8 @@
 use Rattle.std.proofs.Common.{rules, ◌≡◌, ◌∙◌, [], Ok, Err, ap}
 use Rattle.history.specs.Checks.{left}
 use Rattle.season_log.specs.declared.answers.Answer.TheVariants.{Pulled}
-use Rattle.govdrez.specs.Carries.{answered}
-use Rattle.govdrez.proofs.calls.pull.Goals as goal
+use Rattle.season_replay.specs.Carries.{answered}
+use Rattle.season_replay.proofs.calls.pull.Goals as goal
 
 pub returns-in_err-taken-clause-result : goal.returns-in_err-taken-clause-result
 returns-in_err-taken-clause-result g c =

@@ -1,7 +1,7 @@
 ghost use Rattle.std.specs.Prelude.{◌≡◌, []};
 ghost use Rattle.history.specs.Checks.{left};
 ghost use Rattle.season_log.specs.declared.calls.Writing.TheVariants.{Pull};
-ghost use Rattle.govdrez.specs.Carries.{read_answer, write_left};
+ghost use Rattle.season_replay.specs.Carries.{read_answer, write_left};
 
 use crate::yards::Answered;
 use clock::Clock;

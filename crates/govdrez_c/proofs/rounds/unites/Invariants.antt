@@ -1,0 +1,7 @@
+-- The pens stay well made.
+use Rattle.std.specs.List.{All}
+use Rattle.clock.specs.Meaning.{Yes}
+use Rattle.govdrez_c.proofs.rounds.unites.Given as goal
+
+abbrev pub invariant-loop-step : goal.invariant-loop-step
+invariant-loop-step g l = All (λ p. Yes (g.C.Clock.meaning.pen_made p)) l.pens
