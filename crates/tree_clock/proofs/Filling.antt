@@ -1,5 +1,5 @@
 -- How `fill_into` lays out a filled tree.
-use Rattle.std.proofs.Common.{◌≡◌, ℕ, ◌+◌, ◌≤◌, max, Bool, true, false, List, ◌∷◌, get_or, set, refl, ap, ◌∙◌, arith}
+use Rattle.std.proofs.Common.{◌≡◌, ℕ, ◌+◌, ◌≤◌, max, Bool, true, false, List, ◌∷◌, get_or, set, refl, sym, ap, ◌∙◌, arith}
 use Rattle.std.proofs.lemmas.List.{set_at}
 use Rattle.tree_rules.specs.Ids.{Id, off, on, pair, is_on}
 use Rattle.tree_rules.specs.Events.{Event, leaf, node, size, base, top, lo, hi, norm, Normal}
@@ -69,6 +69,16 @@ module _ (o : List Node) (mid end n : ℕ) where
     raised_stands o'' m f l r z = let q = w l r z in rw q.is (f _ _ q.lies q.normal_lower q.normal_upper)
 
 pub ruleset filling = (from_long, written_long, size-fill, size_pos, top-lo, top-hi, normal-lo, normal-hi)
+
+-- a leaf stays as it is, under any id
+fill_leaf : (i : Id) (t : Event) → true ≡ is_leaf t → fill i t ≡ leaf (base t)
+fill_leaf off (leaf n) h = refl
+fill_leaf on (leaf n) h = refl
+fill_leaf (pair l r) (leaf n) h = refl
+fill_leaf i (node n a b) h = absurd (clash' h)
+
+pub leaf_filled : (i : Id) (t : Event) (n : ℕ) → true ≡ is_leaf t → n ≡ base t → (s : List Node) (m : ℕ) → Stands s m (leaf n) → Stands s m (fill i t)
+leaf_filled i t n h k s m w = rw (fill_leaf i t h ∙ ap leaf (sym k)) w
 
 -- under 1 a filled tree is a leaf
 one_size : (i : Id) (e : Event) → is_on i ≡ true → size (fill i e) ≡ 1

@@ -1,24 +1,14 @@
 -- How `join_into` lays out a join.
-use Rattle.std.proofs.Common.{◌≡◌, ℕ, ◌+◌, ◌-◌, ◌<◌, ◌≤◌, min, false, List, sym, ◌∙◌, arith}
+use Rattle.std.proofs.Common.{◌≡◌, ℕ, ◌+◌, ◌-◌, ◌<◌, ◌≤◌, min, List, ◌∙◌, arith}
 use Rattle.tree_rules.specs.Events.{Event, leaf, node, size, base, top, lo, hi, norm, Normal}
 use Rattle.tree_rules.specs.Join.{join_up}
 use Rattle.tree_rules.proofs.Norms.{clash', size_pos, base-top, top-lo, top-hi}
 use Rattle.tree_rules.proofs.Joins.{join_step, normal-join, size-join, top-join, sunk_le}
 use Rattle.tree_clock.specs.declared.nodes.Node.{Node}
 use Rattle.tree_clock.specs.Flat.{Laid, Stands}
-use Rattle.tree_clock.specs.Trees.{is_leaf}
 use Rattle.tree_clock.proofs.Writing.{from_long, written_long}
 
 pub ruleset joining = (from_long, written_long, size-join, size_pos)
-
--- not both are leaves
-pub first_large : (e f : Event) → false ≡ is_leaf e → 2 < size e + size f
-first_large (leaf n) f h = absurd (clash' (sym h))
-first_large (node n l r) f h = omega (arith, size_pos l, size_pos r, size_pos f)
-
-pub second_large : (e f : Event) → false ≡ is_leaf f → 2 < size e + size f
-second_large e (leaf n) h = absurd (clash' (sym h))
-second_large e (node n l r) h = omega (arith, size_pos l, size_pos r, size_pos e)
 
 pub branch_sizes : (e : Event) → size (lo e) + size (hi e) ≤ size e + 1
 branch_sizes (leaf n) = omega arith

@@ -1,9 +1,10 @@
 pub mod Viewing
 pub mod Storing
 pub mod Writing
+pub mod Comparing
 pub mod Closing
 pub mod Joining
-pub mod Overlapping
+pub mod Summing
 pub mod Splitting
 pub mod Filling
 pub mod GrowCost

@@ -12,7 +12,6 @@ use Rattle.tree_rules.specs.Ids.{Id, id_size, is_off}
 use Rattle.tree_rules.specs.Events.{Event, size, top}
 use Rattle.tree_rules.specs.Fill.{fill}
 use Rattle.tree_rules.specs.Grow.{grow, event}
-use Rattle.tree_rules.specs.Join.{join}
 use Rattle.tree_rules.specs.Kind.{grown_due, split_due}
 use Rattle.tree_rules.specs.Shape.{shape}
 use Rattle.tree_rules.specs.Sum.{sum, overlap}
@@ -24,19 +23,19 @@ use Rattle.tree_rules.proofs.Grows.{size-grow, top-grow}
 use Rattle.tree_rules.proofs.Made.{made_id}
 use Rattle.tree_rules.proofs.PenLaws.{fork}
 use Rattle.tree_rules.proofs.RulesHold.{event_rules}
-use Rattle.tree_rules.proofs.Shapes.{join-shape, size-shape, top-shape, shape_injective}
+use Rattle.tree_rules.proofs.Shapes.{size-shape, top-shape, shape_injective}
 use Rattle.tree_clock.specs.declared.clocks.TreeClock.{TreeClock}
 use Rattle.tree_clock.specs.declared.pens.TreePen.{TreePen}
 use Rattle.tree_clock.specs.Growth.{past_limits}
 use Rattle.tree_clock.specs.Operations.{unite_answer, event_answer, covers_answer, verdict_answer}
-use Rattle.tree_clock.specs.Reading.{clock_facts, clock_is, pen_facts, pen_is, pen_id}
+use Rattle.tree_clock.specs.Reading.{clock_facts, clock_is, pen_is, pen_id}
 use Rattle.tree_clock.specs.Stored.{id_of, event_of, pen_of, clock_of, pen_made, clock_made, SameMakes, SameKnows, tree_kind}
 use Rattle.tree_clock.specs.StoredSound.{same_marks, tree_kind_sound}
 use Rattle.tree_clock.specs.Trees.{same_event, as_id, as_id-shape}
 use Rattle.tree_clock.proofs.Viewing.{one_event}
 
 -- an id as the tree that is its shape
-pub ruleset shapes = (join-shape, size-shape, top-shape, as_id-shape)
+pub ruleset shapes = (size-shape, top-shape, as_id-shape)
 
 pub ruleset fills = (size-fill, top-fill)
 
@@ -100,16 +99,12 @@ module _ (c d : TreeClock) (h : Yes (clock_made c)) (g : Yes (clock_made d)) whe
   pub compared : (v : Verdict) → v ≡ verdict_answer c d → ComparesMarks tree_kind c d v
   compared v e = rw e (compares_marks tree_kind tree_kind_sound c d h g)
 
--- the union of two pens that do not meet, t being the join of their shapes
-module _ (p q : TreePen) (h : Yes (pen_made p)) (g : Yes (pen_made q)) (v : false ≡ overlap (id_of p) (id_of q)) (t : Event) (j : t ≡ join (shape (id_of p)) (shape (id_of q))) where
-  united : t ≡ shape (sum (id_of p) (id_of q))
-  united = j ∙ join-shape (id_of p) (id_of q) (pen_facts p h).1 (pen_facts q g).1
-
-  pub unite_done : size t ≤ 63 → (k : Id) → k ≡ as_id t → (r : TreePen) → r ≡ pen_of k → ◌≡◌ {A = Result TreePen Fault} (Ok r) (unite_answer p q)
-  unite_done m k e r z =
-      let s : k ≡ sum (id_of p) (id_of q) = e ∙ ap as_id united ∙ as_id-shape (sum (id_of p) (id_of q)) in
-      let n : id_size (sum (id_of p) (id_of q)) ≤ 63 = omega (arith, size-shape (sum (id_of p) (id_of q)), ap size united) in
-      rw (sym v, le-ltb 63 (id_size (sum (id_of p) (id_of q))) n) (ap Ok (z ∙ ap pen_of s))
+-- the union of two pens that do not meet, t being the shape of the sum
+pub unite_done : (p q : TreePen) → overlap (id_of p) (id_of q) ≡ false → (t : Event) → t ≡ shape (sum (id_of p) (id_of q)) → size t ≤ 63 → (k : Id) → k ≡ as_id t → (r : TreePen) → r ≡ pen_of k → ◌≡◌ {A = Result TreePen Fault} (Ok r) (unite_answer p q)
+unite_done p q v t j m k e r z =
+    let s : k ≡ sum (id_of p) (id_of q) = e ∙ ap as_id j ∙ as_id-shape (sum (id_of p) (id_of q)) in
+    let n : id_size (sum (id_of p) (id_of q)) ≤ 63 = omega (arith, size-shape (sum (id_of p) (id_of q)), ap size j) in
+    rw (v, le-ltb 63 (id_size (sum (id_of p) (id_of q))) n) (ap Ok (z ∙ ap pen_of s))
 
 -- an event, under an id that is not 0
 module _ (p : TreePen) (c : TreeClock) (k : false ≡ is_off (id_of p)) where

@@ -82,7 +82,7 @@ impl TreeClock {
         ensures stored { (result ≡ true) ↔ (self.now ≡ other.now) }
         ensures marks { (result ≡ true) ↔ SameKnows self.now other.now }
     {
-        // not `self == other`, which reads the fillers too: 61 ns against 14 at 5 nodes, and 58 against 66 at 63
+        // not `self == other`, which reads the fillers too and tests each field by itself
         self.tree() == other.tree()
     }
 

@@ -20,5 +20,18 @@ pub(crate) fn covers_from(a: Tree, up_a: u16, b: Tree, up_b: u16) -> bool
     if b.is_leaf() {
         return true;
     }
-    covers_from(a.lower(), at_a, b.lower(), at_b) && covers_from(a.upper(), at_a, b.upper(), at_b)
+    // half of all nodes are leaves: one is compared here, since a call costs more than the test
+    let (low_a, low_b) = (a.lower(), b.lower());
+    if low_b.is_leaf() {
+        if at_b + low_b.base() > at_a + low_a.base() {
+            return false;
+        }
+    } else if !covers_from(low_a, at_a, low_b, at_b) {
+        return false;
+    }
+    let (high_a, high_b) = (a.upper(), b.upper());
+    if high_b.is_leaf() {
+        return at_b + high_b.base() <= at_a + high_a.base();
+    }
+    covers_from(high_a, at_a, high_b, at_b)
 }

@@ -1,10 +1,11 @@
-ghost use Rattle.std.specs.Prelude.{◌≡◌, ℕ, ◌+◌, ◌<◌, ◌≤◌, max, length};
+ghost use Rattle.std.specs.Prelude.{◌≡◌, ℕ, ◌+◌, ◌<◌, ◌≤◌, max, false, length};
 ghost use Rattle.tree_rules.specs.Events.{Event, leaf, base as base_of, size as size_of, top, Normal};
 ghost use Rattle.tree_rules.specs.Ids.{is_on};
+ghost use Rattle.tree_rules.specs.Shape.{shape};
 ghost use Rattle.tree_rules.specs.Fill.{filled, fill};
 ghost use Rattle.tree_clock.specs.Flat.{Laid, Stands};
 ghost use Rattle.tree_clock.specs.Sides.{Sides, High};
-ghost use Rattle.tree_clock.specs.Trees.{id_lo, id_hi};
+ghost use Rattle.tree_clock.specs.Trees.{is_leaf as leaf_test, id_lo, id_hi};
 
 use crate::ids::IdTree;
 use crate::nodes::{Node, leaf_into};
@@ -53,6 +54,10 @@ fn fill_close(id: &IdTree, base: u16, mid: usize, end: usize, out: &mut [Node]) 
 }
 
 // Fills `e` under the id, at the front of `out`; the answer is the size.
+// What needs no walk is done here and branches in a function of their own, so that this one
+// is copied into each caller: half of all nodes are leaves, and a call costs more than a leaf.
+#[inline(always)]
+#[cycle(fill_into_fill_branches)]
 #[tactic(auto, using(crate::proofs::Filling::filling))]
 pub(crate) fn fill_into(id: IdTree, e: Tree, out: &mut [Node]) -> usize
     requires below { Normal e × (top e ≤ 65535) }
@@ -60,12 +65,28 @@ pub(crate) fn fill_into(id: IdTree, e: Tree, out: &mut [Node]) -> usize
     ensures stands { Stands out.new result (fill id.entry e.entry) }
     ensures long { length out.new ≡ length out.old }
 {
+    if e.is_leaf() {
+        return leaf_into(e.base(), out);
+    }
     if id.is_one() {
         return leaf_into(highest(e), out);
     }
-    if id.is_leaf() || e.is_leaf() {
+    if id.is_leaf() {
         return e.put(out);
     }
+    fill_branches(id, e, out)
+}
+
+// The same for a pair and a triple.
+#[cycle(fill_into_fill_branches)]
+#[tactic(auto, using(crate::proofs::Filling::filling))]
+fn fill_branches(id: IdTree, e: Tree, out: &mut [Node]) -> usize
+    requires below { Normal e × (top e ≤ 65535) }
+    requires room { (size_of e ≤ length out.old) × (length out.old ≤ 1000) }
+    requires branches { (leaf_test (shape id) ≡ false) × (leaf_test e ≡ false) }
+    ensures stands { Stands out.new result (fill id.entry e.entry) }
+    ensures long { length out.new ≡ length out.old }
+{
     let mid = 1 + fill_into(id.lower(), e.lower(), &mut out[1..]);
     let end = mid + fill_into(id.upper(), e.upper(), &mut out[mid..]);
     fill_close(&id, e.base(), mid, end, out)

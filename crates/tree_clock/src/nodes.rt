@@ -1,4 +1,4 @@
-ghost use Rattle.std.specs.Prelude.{◌≡◌, ℕ, ◌<◌, ◌≤◌, length, replicate};
+ghost use Rattle.std.specs.Prelude.{◌≡◌, ℕ, ◌/◌, ◌%◌, ◌<◌, ◌≤◌, true, ◌↔◌, length, replicate};
 ghost use Rattle.tree_rules.specs.Events.{Event, leaf, node};
 ghost use Rattle.tree_clock.specs.Flat.{filler, Laid, Stands};
 
@@ -9,6 +9,32 @@ ghost use Rattle.tree_clock.specs.Flat.{filler, Laid, Stands};
 pub(crate) struct Node {
     pub(crate) base: u16,
     pub(crate) size: u16,
+}
+
+impl Node {
+    // The node as one number: two nodes are then one comparison, where their fields are two.
+    #[inline]
+    fn word(self) -> u32
+        ensures size { result / 65536 ≡ self.size }
+        ensures base { result % 65536 ≡ self.base }
+    {
+        65536 * u32::from(self.size) + u32::from(self.base)
+    }
+}
+
+// Whether two slices hold the same nodes. There is no end at the first difference, and `&=`, no `&&`:
+// so four nodes are compared at once, where `==` tests one field after the other.
+pub(crate) fn same_nodes(mine: &[Node], theirs: &[Node]) -> bool
+    ensures { (result ≡ true) ↔ (mine.now ≡ theirs.now) }
+{
+    if mine.len() != theirs.len() {
+        return false;
+    }
+    let mut same = true;
+    for i in 0..mine.len() {
+        same &= mine[i].word() == theirs[i].word();
+    }
+    same
 }
 
 // The limits of a tree: its nodes, and its largest value.

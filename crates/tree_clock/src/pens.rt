@@ -8,11 +8,10 @@ ghost use Rattle.tree_clock.specs.Operations.{fork_answer, unite_answer};
 ghost use Rattle.tree_clock.specs.Stored.{pen_of, id_of, pen_made, SameMakes, tree_kind};
 
 use crate::ids::IdTree;
-use crate::join::join_into;
 use crate::nodes::{MOST_NODES, Node, ROOM, fillers};
 use crate::split::{Half, cannot_split, half_into};
 use crate::stored::Stored;
-use crate::sum::overlaps;
+use crate::sum::sum_into;
 use crate::tree::Tree;
 use clock::{Cause, Fault};
 
@@ -89,11 +88,10 @@ impl TreePen {
         ensures result { result ≡ unite_answer self.now other.now }
         ensures marks { IfOk result (λ p. United tree_kind self.now other.now p) }
     {
-        if overlaps(self.id(), other.id()) {
-            return Err(Cause::PensOverlap.into());
-        }
         let mut out: [Node; ROOM] = fillers();
-        let n = join_into(self.id().tree(), 0, other.id().tree(), 0, &mut out);
+        let Some(n) = sum_into(self.id(), other.id(), &mut out) else {
+            return Err(Cause::PensOverlap.into());
+        };
         if n > MOST_NODES {
             return Err(Cause::PenTooLarge.into());
         }

@@ -5,7 +5,7 @@ ghost use Rattle.tree_rules.specs.Events.{Event, leaf, base as base_of, lo, hi, 
 ghost use Rattle.tree_clock.specs.Flat.{flat, Stands};
 ghost use Rattle.tree_clock.specs.Trees.{same_event, is_leaf as leaf_test};
 
-use crate::nodes::Node;
+use crate::nodes::{Node, same_nodes};
 use std::marker::Model;
 
 const ZERO: [Node; 1] = [Node { base: 0, size: 1 }];
@@ -43,7 +43,7 @@ impl<'a> PartialEq for Tree<'a> {
     ghost laws = { Prim.search (comparing, rules) depth 9 };
 
     fn eq(&self, other: &Tree<'a>) -> bool {
-        self.nodes == other.nodes
+        same_nodes(self.nodes, other.nodes)
     }
 }
 

@@ -35,6 +35,9 @@ impl<const N: usize> Counts<N> {
     /// One more at the lowest name of the pen whose count is below 65,535.
     /// Refused with 14 where the pen has no name, and with 16 where each of its
     /// names is at 65,535.
+    // Into the caller, with the kind's method: a `Result` that is handed over is stored in pieces and read as a whole.
+    // `#[inline]` alone leaves the call.
+    #[inline(always)]
     pub fn event(&self, pen: &Names<N>) -> Result<Counts<N>, Fault>
         ensures { result ≡ answered (event_due pen.now self.now) (raised pen.now self.now) }
     {
@@ -70,10 +73,13 @@ impl<const N: usize> Counts<N> {
     pub fn covers(&self, other: &Counts<N>) -> bool
         ensures { result ≡ covered self.now other.now }
     {
-        self.counts
-            .iter()
-            .zip(&other.counts)
-            .all(|(mine, theirs)| mine >= theirs)
+        // No end at the first larger count, and `&=`, no `&&`: so all counts are compared at once, where a search
+        // tests one after the other.
+        let mut all = true;
+        for (mine, theirs) in self.counts.iter().zip(&other.counts) {
+            all &= mine >= theirs;
+        }
+        all
     }
 
     /// The verdict on this clock against the other.

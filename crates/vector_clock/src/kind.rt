@@ -38,6 +38,8 @@ impl Clock for VectorClock {
         pen.fork()
     }
 
+    // As `Counts::event`.
+    #[inline(always)]
     fn event(&self, pen: &VectorPen) -> Result<VectorClock, Fault> {
         Counts::event(self, pen)
     }
