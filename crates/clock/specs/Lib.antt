@@ -1,5 +1,6 @@
 pub mod Causes
 pub mod Answers
+pub mod Faults
 pub mod Verdicts
 pub mod Meaning
 pub mod Sound

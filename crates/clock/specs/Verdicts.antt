@@ -1,5 +1,5 @@
--- The verdict on a first clock against a second, and its number.
-use Rattle.std.specs.Prelude.{ℕ, Bool, true, false}
+-- The verdict on a first clock against a second, its number, and its word.
+use Rattle.std.specs.Prelude.{ℕ, Bool, true, false, List, codes}
 use Rattle.clock.specs.declared.verdicts.Verdict.{Verdict}
 use Rattle.clock.specs.declared.verdicts.Verdict.TheVariants.{Equal, Stale, Ahead, Conflict}
 
@@ -15,3 +15,9 @@ byte_of Equal = 0
 byte_of Stale = 1
 byte_of Ahead = 2
 byte_of Conflict = 3
+
+abbrev pub verdict_word : Verdict → List ℕ
+verdict_word Equal = codes "equal"
+verdict_word Stale = codes "stale"
+verdict_word Ahead = codes "ahead"
+verdict_word Conflict = codes "conflict"

@@ -1,5 +1,6 @@
 ghost use Rattle.std.specs.Prelude.{◌≡◌, Some};
 ghost use Rattle.clock.specs.Answers.{fault_of};
+ghost use Rattle.clock.specs.Faults.{fault_text};
 
 use crate::causes::Cause;
 use std::error::Error;
@@ -52,6 +53,8 @@ impl Fault {
 
 /// The refusal as a log prints it, as `refused 7 berth 1 file 0`.
 impl fmt::Display for Fault {
+    ghost output = { λ fault. Some (fault_text fault) };
+
     fn fmt<W: fmt::Write>(&self, f: &mut fmt::Formatter<W>) -> fmt::Result {
         let number = u8::from(self.cause);
         write!(f, "refused {number}")?;

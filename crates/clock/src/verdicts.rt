@@ -1,5 +1,5 @@
-ghost use Rattle.std.specs.Prelude.{◌≡◌};
-ghost use Rattle.clock.specs.Verdicts.{verdict_of, byte_of};
+ghost use Rattle.std.specs.Prelude.{◌≡◌, Some};
+ghost use Rattle.clock.specs.Verdicts.{verdict_of, byte_of, verdict_word};
 
 use std::fmt;
 
@@ -43,6 +43,8 @@ impl From<Verdict> for u8 {
 
 /// The verdict as a word.
 impl fmt::Display for Verdict {
+    ghost output = { λ verdict. Some (verdict_word verdict) };
+
     fn fmt<W: fmt::Write>(&self, f: &mut fmt::Formatter<W>) -> fmt::Result {
         f.write_str(match *self {
             Verdict::Equal => "equal",

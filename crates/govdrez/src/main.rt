@@ -3,15 +3,10 @@
 
 #![tactic(auto)]
 
-mod errors;
 mod help;
-mod kinds;
-mod replays;
-#[cfg(test)]
-mod tests;
 
 use crate::help::HELP;
-use crate::replays::replay_log;
+use log_replay::replay_log;
 use std::io::BufReader;
 use std::process::ExitCode;
 use std::{env, fs, io};

@@ -62,10 +62,15 @@ pub(crate) fn fork<C: Clock>(pens: &mut [C::Pen], step: &Step) -> Result<(), Fau
     requires pens { All (λ p. Yes (C.Clock.meaning.pen_made p)) pens.old }
     ensures { All (λ p. Yes (C.Clock.meaning.pen_made p)) pens.new }
 {
-    let (first, second) = C::fork(&pens[slot(step.a)])?;
-    pens[slot(step.to)] = first;
-    pens[slot(step.b)] = second;
-    Ok(())
+    // as the loop of the peers does; by `?` both pens would be moved twice more
+    match C::fork(&pens[slot(step.a)]) {
+        Ok((first, second)) => {
+            pens[slot(step.to)] = first;
+            pens[slot(step.b)] = second;
+            Ok(())
+        }
+        Err(fault) => Err(fault),
+    }
 }
 
 #[inline]

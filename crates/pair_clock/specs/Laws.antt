@@ -7,10 +7,14 @@ use Rattle.clock.specs.declared.causes.Cause.TheVariants.{PensOverlap}
 use Rattle.clock.specs.Answers.{due}
 use Rattle.clock.specs.Sound.{Sound, Forked, Evented, Overlap, Within}
 use Rattle.pair_clock.specs.declared.pens.PairPen.{PairPen}
-use Rattle.pair_clock.specs.declared.pens.PairPen.TheVariants.{Ship, Launch, Both}
 use Rattle.pair_clock.specs.declared.clocks.PairClock.{PairClock}
-use Rattle.pair_clock.specs.Pair.{has, count, counts, fork_due, free, event_due, raised, larger, covered, shared, unite_due, both_pens}
+use Rattle.pair_clock.specs.Pair.{has, count, lines, counts, fork_due, free, event_due, raised, larger, covered, shared, unite_due, both_pens}
 use Rattle.pair_clock.specs.Kind.{pairs}
+
+no_lines : (l : ℕ) → has (lines false false) l ≡ false
+no_lines zero = refl
+no_lines (suc zero) = refl
+no_lines (suc (suc l)) = refl
 
 blank_law : (l s : ℕ) → nat_lt s (count (counts 0 0) l) ≡ false
 blank_law zero s = grind (arith, nat_tests)
@@ -19,19 +23,29 @@ blank_law (suc (suc l)) s = grind (arith, nat_tests)
 
 -- fork
 
-whole : (l : ℕ) → has Both l ≡ (has Ship l || has Launch l)
-whole zero = refl
-whole (suc zero) = refl
-whole (suc (suc l)) = refl
+abbrev ship : PairPen
+ship = lines true false
 
-apart : (l : ℕ) → has Ship l ≡ true → has Launch l ≡ true → ⊥
+abbrev launch : PairPen
+launch = lines false true
+
+whole : (p : PairPen) → p.ship ≡ true → p.launch ≡ true → (l : ℕ) → has p l ≡ (has ship l || has launch l)
+whole p x y zero = x
+whole p x y (suc zero) = y
+whole p x y (suc (suc l)) = refl
+
+apart : (l : ℕ) → has ship l ≡ true → has launch l ≡ true → ⊥
 apart zero x y = grind arith
 apart (suc zero) x y = grind arith
 apart (suc (suc l)) x y = grind arith
 
-fork_law : (p : PairPen) → fork_due p ≡ None → Forked pairs p Ship Launch
-fork_law Both e = record { first_made = refl; second_made = refl; apart = λ l s. apart l; together = λ l s. whole l }
-fork_law p e = grind arith
+fork_law : (p : PairPen) → fork_due p ≡ None → Forked pairs p ship launch
+fork_law p e = record {
+  first_made = refl;
+  second_made = refl;
+  apart = λ l s. apart l;
+  together = λ l s. whole p (grind arith) (grind arith) l;
+}
 
 -- event
 
@@ -87,11 +101,13 @@ within_covers c d w = let ship = w 0 c.ship in let launch = w 1 c.launch in grin
 
 -- unite
 
-unite_law : (p q : PairPen) → unite_due p q ≡ None → (l : ℕ) → has (both_pens p q) l ≡ (has p l || has q l)
-unite_law p q e l = let w = whole l in grind arith
+unite_law : (p q : PairPen) (l : ℕ) → has (both_pens p q) l ≡ (has p l || has q l)
+unite_law p q zero = refl
+unite_law p q (suc zero) = refl
+unite_law p q (suc (suc l)) = refl
 
 shared_line : (p q : PairPen) → unite_due p q ≡ Some PensOverlap → Overlap pairs p q
-shared_line p q e = elim (cases_Bool (has p 0 && has q 0)) [ inl h ↦ (0, 0, grind arith, grind arith) | inr h ↦ (1, 0, grind arith, grind arith) ]
+shared_line p q e = elim (cases_Bool (p.ship && q.ship)) [ inl h ↦ (0, 0, grind arith, grind arith) | inr h ↦ (1, 0, grind arith, grind arith) ]
 
 is_shared : (p q : PairPen) (l : ℕ) → has p l ≡ true → has q l ≡ true → shared p q ≡ true
 is_shared p q zero x y = grind arith
@@ -103,7 +119,7 @@ pairs_sound = record {
   seed_made = refl;
   no_pen_made = refl;
   blank_made = refl;
-  no_pen_makes = λ l s. refl;
+  no_pen_makes = λ l s. no_lines l;
   blank_knows = blank_law;
   fork = λ p _. fork_law p;
   fork_cause = λ p c _ e. grind arith;
@@ -112,7 +128,7 @@ pairs_sound = record {
   join = λ c d _ _ _. record { made = refl; union = join_law c d };
   join_cause = λ c d e _ _ h. grind arith;
   covers = λ c d _ _. (covers_within c d, within_covers c d);
-  unite = λ p q _ _ e. record { made = refl; union = λ l s. unite_law p q e l };
+  unite = λ p q _ _ e. record { made = refl; union = λ l s. unite_law p q l };
   unite_cause = λ p q c _ _ e. grind arith;
   overlap = λ p q _ _. (shared_line p q, λ o. ap (λ b. due b PensOverlap) (is_shared p q o.0 o.2 o.3));
   opening = record { forks = refl; first_event = refl; second_event = refl; joins = refl };

@@ -8,6 +8,17 @@ use clock::{Cause, Clock, Fault};
 // The largest count.
 const LIMIT: u16 = 65535;
 
+// The halves of the seed.
+const SHIP: PairPen = PairPen {
+    ship: true,
+    launch: false,
+};
+
+const LAUNCH: PairPen = PairPen {
+    ship: false,
+    launch: true,
+};
+
 /// Two counts as a clock kind. An event counts on the ship's line where the pen
 /// has it and there is room, else on the launch's.
 impl Clock for PairClock {
@@ -18,11 +29,17 @@ impl Clock for PairClock {
     ghost sound = { pairs_sound };
 
     fn seed() -> PairPen {
-        PairPen::Both
+        PairPen {
+            ship: true,
+            launch: true,
+        }
     }
 
     fn no_pen() -> PairPen {
-        PairPen::Nobody
+        PairPen {
+            ship: false,
+            launch: false,
+        }
     }
 
     fn blank() -> PairClock {
@@ -30,25 +47,29 @@ impl Clock for PairClock {
     }
 
     fn fork(pen: &PairPen) -> Result<(PairPen, PairPen), Fault> {
-        match pen {
-            PairPen::Both => Ok((PairPen::Ship, PairPen::Launch)),
-            _ => Err(Cause::CannotSplit.into()),
+        if pen.ship && pen.launch {
+            Ok((SHIP, LAUNCH))
+        } else {
+            Err(Cause::CannotSplit.into())
         }
     }
 
     fn event(&self, pen: &PairPen) -> Result<PairClock, Fault> {
         let PairClock { ship, launch } = *self;
-        match pen {
-            PairPen::Nobody => Err(Cause::PenSpent.into()),
-            PairPen::Ship | PairPen::Both if ship < LIMIT => Ok(PairClock {
+        if !pen.ship && !pen.launch {
+            Err(Cause::PenSpent.into())
+        } else if pen.ship && ship < LIMIT {
+            Ok(PairClock {
                 ship: ship + 1,
                 launch,
-            }),
-            PairPen::Launch | PairPen::Both if launch < LIMIT => Ok(PairClock {
+            })
+        } else if pen.launch && launch < LIMIT {
+            Ok(PairClock {
                 ship,
                 launch: launch + 1,
-            }),
-            _ => Err(Cause::AtLimit.into()),
+            })
+        } else {
+            Err(Cause::AtLimit.into())
         }
     }
 
@@ -64,12 +85,12 @@ impl Clock for PairClock {
     }
 
     fn unite(pen: &PairPen, other: &PairPen) -> Result<PairPen, Fault> {
-        match (pen, other) {
-            (PairPen::Nobody, one) | (one, PairPen::Nobody) => Ok(*one),
-            (PairPen::Ship, PairPen::Launch) | (PairPen::Launch, PairPen::Ship) => {
-                Ok(PairPen::Both)
-            }
-            _ => Err(Cause::PensOverlap.into()),
+        if (pen.ship && other.ship) || (pen.launch && other.launch) {
+            return Err(Cause::PensOverlap.into());
         }
+        Ok(PairPen {
+            ship: pen.ship || other.ship,
+            launch: pen.launch || other.launch,
+        })
     }
 }

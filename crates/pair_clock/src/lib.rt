@@ -14,8 +14,6 @@
 mod clocks;
 mod kind;
 mod pens;
-#[cfg(test)]
-mod tests;
 
 pub use clocks::PairClock;
 pub use pens::PairPen;

@@ -1,12 +1,6 @@
-/// The right to make marks on some of the two lines.
+/// The right to make marks on some of the two lines. Only the kind makes one.
 #[derive(Clone, Copy, PartialEq, Eq, Debug)]
-pub enum PairPen {
-    /// On neither line.
-    Nobody = 0,
-    /// On the ship's line.
-    Ship = 1,
-    /// On the launch's line.
-    Launch = 2,
-    /// On both lines.
-    Both = 3,
+pub struct PairPen {
+    pub(crate) ship: bool,
+    pub(crate) launch: bool,
 }

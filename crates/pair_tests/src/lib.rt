@@ -1,6 +1,8 @@
-//! Tests of the two counts in a yard.
+//! Tests of the two counts, alone and in a yard.
 
 #![tactic(auto)]
 
+#[cfg(test)]
+mod clock_tests;
 #[cfg(test)]
 mod yard_tests;

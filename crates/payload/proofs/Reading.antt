@@ -9,7 +9,7 @@ use Rattle.payload.specs.declared.decimals.DecimalError.{DecimalError}
 use Rattle.payload.specs.declared.decimals.DecimalError.TheVariants.{OutOfRange}
 use Rattle.payload.specs.Decimals.{plain, decimal_of}
 
-own : IsNumeralModel (λ ds. list_all is_ascii_digit ds ≡ true) (digits_value 10)
+pub own : IsNumeralModel (λ ds. list_all is_ascii_digit ds ≡ true) (digits_value 10)
 own = numerals_by_value (λ ds. list_all is_ascii_digit ds ≡ true) (search rules)
 
 module _ (ds : List ℕ) (p : plain ds ≡ true) where

@@ -1,4 +1,4 @@
--- The tickets that words stand for, and when two are alike.
+-- The tickets that words stand for, the word of each, and when two are alike.
 --
 -- ticket_of d n     the ticket with digest d and length n
 -- ticket_word w     the ticket that a word of a log stands for, or the refusal
@@ -8,10 +8,14 @@
 -- byte_at ds k      16 times the value of digit 2 k, plus that of digit 2 k + 1
 -- digest_of ds      the digest that 64 lowercase hexadecimal digits stand for, or the refusal
 -- length_refusal e  why a ticket is refused whose length is refused by e
+-- byte_text b       the two hexadecimal digits of a byte, the high one first
+-- ticket_text t     the word of a ticket, which it prints: its digest, a colon, its length
+-- ReadBack t        the word that t prints stands for t
 -- same_below k a b  the first k bytes of two digests are the same
 -- same_ticket t u   all 32 bytes and the length are the same
-use Rattle.std.specs.Prelude.{ℕ, zero, suc, ◌+◌, ◌-◌, ◌*◌, Bool, true, cond, ◌&&◌, List, length, map, Ok, Err, Result, is_ok, ◌==◌, nat_lt, nat_le, slice_index}
-use Rattle.std.specs.List.{list_all, range_with_len, position_or_len, before_first, after_first}
+use Rattle.std.specs.Prelude.{◌≡◌, ℕ, zero, suc, ◌+◌, ◌-◌, ◌*◌, ◌/◌, ◌%◌, Bool, true, false, cond, ◌&&◌, List, [], ◌∷◌, ◌++◌, codes, length, map, Ok, Err, Result, is_ok, ◌==◌, nat_lt, nat_le, slice_index}
+use Rattle.std.specs.Fmt.{decimal, digit_glyph}
+use Rattle.std.specs.List.{list_all, flat_map, range_with_len, position_or_len, before_first, after_first}
 use Rattle.std.specs.Result.{result_unwrap_or}
 use Rattle.payload.specs.declared.decimals.DecimalError.{DecimalError}
 use Rattle.payload.specs.declared.decimals.DecimalError.TheVariants as decimal
@@ -55,6 +59,15 @@ has_colon w = nat_lt (position_or_len is_colon w) (length w)
 
 abbrev pub ticket_word : List ℕ → Result Ticket TicketError
 ticket_word w = cond (has_colon w) (ticket_parts (digest_of (before_first is_colon w)) (decimal_of (after_first is_colon w))) (Err NoColon)
+
+abbrev pub byte_text : ℕ → List ℕ
+byte_text b = digit_glyph false (b / 16) ∷ digit_glyph false (b % 16) ∷ []
+
+abbrev pub ticket_text : Ticket → List ℕ
+ticket_text t = flat_map byte_text t.digest ++ (codes ":" ++ decimal t.length)
+
+abbrev pub ReadBack : Ticket → Type 0
+ReadBack t = ticket_word (ticket_text t) ≡ Ok t
 
 abbrev pub same_below : ℕ → List ℕ → List ℕ → Bool
 same_below zero a b = true

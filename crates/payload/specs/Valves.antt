@@ -1,4 +1,4 @@
--- The valves that can be made, and when two are alike.
+-- The valves that can be made, the word of each, and when two are alike.
 --
 -- shut_valve, open_valve      the valves without a number
 -- part_valve n, flow_valve n  the valve with this number, or the refusal
@@ -6,9 +6,12 @@
 -- valve_word w                the valve that a word of a log stands for, or the refusal
 -- part_word w, flow_word w    the same of a word after `part:` and `flow:`
 -- number_word e w             its number; e refuses one that does not fit 64 bits
+-- valve_text v                the word of a valve, which it prints
+-- ReadBack v                  the word that v prints stands for v
 -- case_number c               the number of a case
 -- same_valve v w              the case and the number are the same
-use Rattle.std.specs.Prelude.{ℕ, Bool, cond, ◌&&◌, List, take, drop, Ok, Err, codes, Result, ◌==◌, nat_le}
+use Rattle.std.specs.Prelude.{◌≡◌, ℕ, Bool, cond, ◌&&◌, List, ◌++◌, take, drop, Ok, Err, codes, Result, ◌==◌, nat_le}
+use Rattle.std.specs.Fmt.{decimal}
 use Rattle.std.specs.Str.{bytes_eq}
 use Rattle.payload.specs.declared.decimals.DecimalError.{DecimalError}
 use Rattle.payload.specs.declared.decimals.DecimalError.TheVariants.{NotNumber as NoNumber, OutOfRange}
@@ -77,6 +80,18 @@ valve_word w =
     (cond (bytes_eq (take 5 w) (codes "part:")) (part_word (drop 5 w))
     (cond (bytes_eq (take 5 w) (codes "flow:")) (flow_word (drop 5 w))
     (Err UnknownWord))))
+
+abbrev pub state_text : State → List ℕ
+state_text state.Shut = codes "shut"
+state_text state.Open = codes "open"
+state_text (state.Part n) = codes "part:" ++ decimal n
+state_text (state.Flow n) = codes "flow:" ++ decimal n
+
+abbrev pub valve_text : Valve → List ℕ
+valve_text v = state_text v.0
+
+abbrev pub ReadBack : Valve → Type 0
+ReadBack v = valve_word (valve_text v) ≡ Ok v
 
 abbrev pub case_number : Case → ℕ
 case_number Shut = 0

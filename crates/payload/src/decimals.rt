@@ -1,20 +1,33 @@
-ghost use Rattle.std.specs.Prelude.{◌≡◌};
+ghost use Rattle.std.specs.Prelude.{◌≡◌, Some};
 ghost use Rattle.std.specs.Char.{is_ascii_digit};
 ghost use Rattle.std.specs.List.{list_all};
 ghost use Rattle.payload.specs.Decimals.{plain, decimal_of};
+ghost use Rattle.payload.specs.Errors.{decimal_error_text};
 
-use thiserror::Error;
+use std::error::Error;
+use std::fmt;
 
 /// Why a text is no number.
-#[derive(Clone, Copy, PartialEq, Eq, Debug, Error)]
+#[derive(Clone, Copy, PartialEq, Eq, Debug)]
 pub enum DecimalError {
     /// It is empty, has a leading zero, or holds something else than a digit.
-    #[error("not a decimal number")]
     NotNumber = 1,
     /// It does not fit 64 bits.
-    #[error("the number does not fit 64 bits")]
     OutOfRange = 2,
 }
+
+impl fmt::Display for DecimalError {
+    ghost output = { λ error. Some (decimal_error_text error) };
+
+    fn fmt<W: fmt::Write>(&self, f: &mut fmt::Formatter<W>) -> fmt::Result {
+        f.write_str(match *self {
+            DecimalError::NotNumber => "not a decimal number",
+            DecimalError::OutOfRange => "the number does not fit 64 bits",
+        })
+    }
+}
+
+impl Error for DecimalError {}
 
 /// The number that a decimal text without sign or leading zeros stands for.
 pub fn decimal(text: &str) -> Result<u64, DecimalError>

@@ -14,8 +14,6 @@
 
 mod decimals;
 mod kinds;
-#[cfg(test)]
-mod tests;
 mod tickets;
 mod valves;
 

@@ -1,13 +1,14 @@
-ghost use Rattle.std.specs.Prelude.{◌≡◌, ◌<◌, IfOk, refl};
+ghost use Rattle.std.specs.Prelude.{◌≡◌, ◌<◌, IfOk, Some, refl};
 ghost use Rattle.std.proofs.Common.{sym, ◌∙◌};
-ghost use Rattle.payload.specs.Tickets.{ticket_of, ticket_word, hex_digit, digest_of, length_refusal, same_ticket};
+ghost use Rattle.payload.specs.Tickets.{ticket_of, ticket_word, hex_digit, digest_of, length_refusal, ticket_text, ReadBack, same_ticket};
+ghost use Rattle.payload.specs.Errors.{ticket_error_text, ticket_error_number};
 ghost use Rattle.payload.specs.Alike.{decides_ticket};
 
 use crate::decimals::{DecimalError, decimal};
 use crate::kinds::Payload;
+use std::error::Error;
 use std::fmt;
 use std::str::FromStr;
-use thiserror::Error;
 
 /// A digest of 32 bytes and a length. The digest is given from outside.
 // An array by value: a rule of the project, and the library has no heap.
@@ -18,17 +19,41 @@ pub struct Ticket {
 }
 
 /// Why a word is no ticket.
-#[derive(Clone, Copy, PartialEq, Eq, Debug, Error)]
+#[derive(Clone, Copy, PartialEq, Eq, Debug)]
 pub enum TicketError {
-    #[error("no colon between digest and length")]
+    /// No colon stands between a digest and a length.
     NoColon = 1,
-    #[error("the digest is not 64 lowercase hexadecimal digits")]
+    /// The digest is not 64 lowercase hexadecimal digits.
     NotDigest = 2,
-    #[error("the length is not a decimal number")]
+    /// The length is not a decimal number.
     NotNumber = 3,
-    #[error("the length does not fit 64 bits")]
+    /// The length does not fit 64 bits.
     OutOfRange = 4,
 }
+
+/// The number of the refusal.
+impl From<TicketError> for u8 {
+    ghost from_gives = { λ error number. number ≡ ticket_error_number error };
+
+    fn from(error: TicketError) -> u8 {
+        error as u8
+    }
+}
+
+impl fmt::Display for TicketError {
+    ghost output = { λ error. Some (ticket_error_text error) };
+
+    fn fmt<W: fmt::Write>(&self, f: &mut fmt::Formatter<W>) -> fmt::Result {
+        f.write_str(match *self {
+            TicketError::NoColon => "no colon between digest and length",
+            TicketError::NotDigest => "the digest is not 64 lowercase hexadecimal digits",
+            TicketError::NotNumber => "the length is not a decimal number",
+            TicketError::OutOfRange => "the length does not fit 64 bits",
+        })
+    }
+}
+
+impl Error for TicketError {}
 
 /// Why a ticket is refused whose length is no number.
 impl From<DecimalError> for TicketError {
@@ -45,7 +70,8 @@ impl From<DecimalError> for TicketError {
 impl Ticket {
     /// A ticket with this digest and length.
     pub fn new(digest: [u8; 32], length: u64) -> Ticket
-        ensures { result ≡ ticket_of digest length }
+        ensures result { result ≡ ticket_of digest length }
+        ensures read_back { ReadBack result }
     {
         Ticket { digest, length }
     }
@@ -133,6 +159,8 @@ impl Payload for Ticket {
 
 /// 64 lowercase hexadecimal digits, `:`, the length in decimal
 impl fmt::Display for Ticket {
+    ghost output = { λ ticket. Some (ticket_text ticket) };
+
     fn fmt<W: fmt::Write>(&self, f: &mut fmt::Formatter<W>) -> fmt::Result {
         for byte in &self.digest {
             write!(f, "{byte:02x}")?;

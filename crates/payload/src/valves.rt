@@ -1,12 +1,13 @@
-ghost use Rattle.std.specs.Prelude.{◌≡◌};
-ghost use Rattle.payload.specs.Valves.{shut_valve, open_valve, part_valve, flow_valve, case_of, number_of, valve_word, number_word, same_valve};
+ghost use Rattle.std.specs.Prelude.{◌≡◌, IfOk, Some};
+ghost use Rattle.payload.specs.Valves.{shut_valve, open_valve, part_valve, flow_valve, case_of, number_of, valve_word, number_word, valve_text, ReadBack, same_valve};
+ghost use Rattle.payload.specs.Errors.{valve_error_text, valve_error_number};
 ghost use Rattle.std.proofs.Common.{rules};
 
 use crate::decimals::{DecimalError, decimal};
 use crate::kinds::Payload;
+use std::error::Error;
 use std::fmt;
 use std::str::FromStr;
-use thiserror::Error;
 
 /// The cases of a valve.
 #[derive(Clone, Copy, PartialEq, Eq, Debug)]
@@ -35,37 +36,65 @@ enum State {
 }
 
 /// Why there is no such valve.
-#[derive(Clone, Copy, PartialEq, Eq, Debug, Error)]
+#[derive(Clone, Copy, PartialEq, Eq, Debug)]
 pub enum ValveError {
-    #[error("not a word of a valve")]
+    /// The word is none of a valve.
     UnknownWord = 1,
-    #[error("not a decimal number")]
+    /// What stands for the number is none.
     NotNumber = 2,
-    #[error("a part is 1 to 99 percent")]
+    /// The part is not 1 to 99 percent.
     PartRange = 3,
-    #[error("a flow is 0 to 9999 litres a second")]
+    /// The flow is not 0 to 9,999 litres a second.
     FlowRange = 4,
 }
+
+/// The number of the refusal.
+impl From<ValveError> for u8 {
+    ghost from_gives = { λ error number. number ≡ valve_error_number error };
+
+    fn from(error: ValveError) -> u8 {
+        error as u8
+    }
+}
+
+impl fmt::Display for ValveError {
+    ghost output = { λ error. Some (valve_error_text error) };
+
+    fn fmt<W: fmt::Write>(&self, f: &mut fmt::Formatter<W>) -> fmt::Result {
+        f.write_str(match *self {
+            ValveError::UnknownWord => "not a word of a valve",
+            ValveError::NotNumber => "not a decimal number",
+            ValveError::PartRange => "a part is 1 to 99 percent",
+            ValveError::FlowRange => "a flow is 0 to 9999 litres a second",
+        })
+    }
+}
+
+impl Error for ValveError {}
 
 // `shut`, `open`, `part` and `flow` are four functions, as they are four words of the rules.
 impl Valve {
     /// The shut valve.
     pub fn shut() -> Valve
-        ensures { result ≡ shut_valve }
+        ensures result { result ≡ shut_valve }
+        ensures read_back { ReadBack result }
     {
         Valve(State::Shut)
     }
 
     /// The open valve.
     pub fn open() -> Valve
-        ensures { result ≡ open_valve }
+        ensures result { result ≡ open_valve }
+        ensures read_back { ReadBack result }
     {
         Valve(State::Open)
     }
 
     /// A valve open by 1 to 99 percent. Refused for another number.
+    #[tactic(auto, using(crate::proofs::Printing::part_reads))]
     pub fn part(percent: u64) -> Result<Valve, ValveError>
-        ensures { result ≡ part_valve percent }
+        ensures result { result ≡ part_valve percent }
+        ensures read_back { IfOk result ReadBack }
     {
         match percent {
             1..=99 => Ok(Valve(State::Part(percent as u16))),
@@ -74,8 +103,10 @@ impl Valve {
     }
 
     /// A valve set to 0 to 9,999 litres a second. Refused for another number.
+    #[tactic(auto, using(crate::proofs::Printing::flow_reads))]
     pub fn flow(litres: u64) -> Result<Valve, ValveError>
-        ensures { result ≡ flow_valve litres }
+        ensures result { result ≡ flow_valve litres }
+        ensures read_back { IfOk result ReadBack }
     {
         match litres {
             0..=9999 => Ok(Valve(State::Flow(litres as u16))),
@@ -155,6 +186,8 @@ impl Payload for Valve {
 
 /// `shut`, `open`, `part:40` or `flow:300`
 impl fmt::Display for Valve {
+    ghost output = { λ valve. Some (valve_text valve) };
+
     fn fmt<W: fmt::Write>(&self, f: &mut fmt::Formatter<W>) -> fmt::Result {
         match self.0 {
             State::Shut => write!(f, "shut"),

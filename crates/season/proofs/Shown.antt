@@ -13,6 +13,7 @@ use Rattle.history.specs.Calls.{judge, leaves}
 use Rattle.history.specs.Judge.{judge_checks}
 use Rattle.history.proofs.Due.{passed, fit, berth_below, file_below}
 use Rattle.history.proofs.Lookups.{place_within}
+use Rattle.season.specs.Held.{held}
 use Rattle.season.specs.Shows.{or_refused, show_result}
 
 module _ {Pen C P A : Type 0} (bs : List (Berth Pen)) (cs : List (Record C P)) (done : Left Pen C P A) where
@@ -30,17 +31,14 @@ module _ {Pen C P : Type 0} (m : Meaning Pen C) (alike : P → P → Bool) (bs :
     undue : first (judge_checks card bs cs a a f) ≡ None
     undue = none_due bs cs _ _ v (ap (λ (l : Left Pen C P Verdict). l.answer) e)
 
-    pub in_berths : a < length bs
-    in_berths = let q = passed (judge_checks card bs cs a a f) undue in subst (λ n. a < n) (sym (fit card bs cs q.0).berths_are) (berth_below card a q.1.0)
-
     within : a * card.files + f < length cs
     within = let q = passed (judge_checks card bs cs a a f) undue in subst (λ n. a * card.files + f < n) (sym (fit card bs cs q.0).copies_are) (omega (arith, place_within card.berths card.files a f (berth_below card a q.1.0) (file_below card f q.1.1.1.0)))
 
     pub in_copies : (files n : ℕ) → files ≡ card.files → n ≡ length cs → a * files + f < n
     in_copies files n ef en = subst (λ k. a * k + f < n) (sym ef) (subst (λ k. a * card.files + f < k) (sym en) within)
 
-    pub shown : (i : ℕ) (x : Berth Pen) (r : Record C P) → i ≡ a * card.files + f → slice_get bs a ≡ Some x → slice_get cs i ≡ Some r → Ok (x.pen, r.clock) ≡ show_result m card bs cs a f
+    pub shown : (i : ℕ) (x : Berth Pen) (r : Record C P) → i ≡ a * card.files + f → slice_get bs a ≡ Some x → slice_get cs i ≡ Some r → Ok (x.pen, r.clock) ≡ show_result m (held card bs cs) a f
     shown i x r ei ex ei_r = let er = subst (λ k. slice_get cs k ≡ Some r) ei ei_r in ap (λ (p : Pen). Ok (p, r.clock)) (ap (pen_in m) (sym ex)) ∙ (ap (λ (d : C). Ok (pen_at m bs a, d)) (ap (clock_in m) (sym er)) ∙ ap (λ (o : Option Fault). or_refused o (pen_at m bs a, clock_at m card.files cs a f)) (sym undue))
 
-  pub refused : (x : Fault) → left (Err x) bs cs [] ≡ leaves m alike (judge card a a f) bs cs → Err x ≡ show_result m card bs cs a f
+  pub refused : (x : Fault) → left (Err x) bs cs [] ≡ leaves m alike (judge card a a f) bs cs → Err x ≡ show_result m (held card bs cs) a f
   refused x e = ap (λ (o : Option Fault). or_refused o (pen_at m bs a, clock_at m card.files cs a f)) (sym (refused_is bs cs _ _ x _ refl (ap (λ (l : Left Pen C P Verdict). l.answer) e)))

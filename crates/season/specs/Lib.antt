@@ -1,3 +1,4 @@
+pub mod Held
 pub mod Replays
 pub mod Opens
 pub mod Shows

@@ -1,8 +1,8 @@
 -- Tables that calls lead to, and what a verdict on them says.
 --
--- Replayed m alike bs cs        some list of calls leads to these tables, from what an accepted open left
--- Behind m alike bs cs a b f v  the verdict v compares the edits behind a's and b's copies of file f, as those calls made them
--- EachBehind m alike bs cs a b files bytes   the same of byte f of a buffer, for each file
+-- Replayed m alike bs cs              some list of calls leads to these tables, from what an accepted open left
+-- Behind m alike h a b f v            in the season h the verdict v compares the edits behind a's and b's copies of file f, as those calls made them
+-- EachBehind m alike h a b bytes      the same of byte f of a buffer, for each file f
 use Rattle.std.specs.Prelude.{ℕ, ◌<◌, Bool, List, slice_index}
 use Rattle.clock.specs.declared.verdicts.Verdict.{Verdict}
 use Rattle.clock.specs.Meaning.{Meaning}
@@ -10,17 +10,19 @@ use Rattle.history.specs.declared.tables.Berth.{Berth}
 use Rattle.history.specs.declared.tables.Record.{Record}
 use Rattle.history.specs.History.{History, yard, Reached}
 use Rattle.history.specs.Law.{Compares, ComparesByte}
+use Rattle.season.specs.Held.{Held}
 
-module _ {Pen C P : Type 0} (m : Meaning Pen C) (alike : P → P → Bool) (bs : List (Berth Pen)) (cs : List (Record C P)) where
-  pub record Replayed : Type 0 where
+module _ {Pen C P : Type 0} (m : Meaning Pen C) (alike : P → P → Bool) where
+  pub record Replayed (bs : List (Berth Pen)) (cs : List (Record C P)) : Type 0 where
     pub payloads : List P
     pub history : History P
     pub reached : Reached m alike payloads (yard bs cs history)
 
-  pub record Behind (a b f : ℕ) (v : Verdict) : Type 0 where
-    pub replayed : Replayed
-    pub compares : Compares v (replayed.history.behind a f) (replayed.history.behind b f)
+  module _ (h : Held Pen C P) where
+    pub record Behind (a b f : ℕ) (v : Verdict) : Type 0 where
+      pub replayed : Replayed h.berths h.copies
+      pub compares : Compares v (replayed.history.behind a f) (replayed.history.behind b f)
 
-  pub record EachBehind (a b files : ℕ) (bytes : List ℕ) : Type 0 where
-    pub replayed : Replayed
-    pub compares : (f : ℕ) → f < files → ComparesByte (slice_index bytes f) (replayed.history.behind a f) (replayed.history.behind b f)
+    pub record EachBehind (a b : ℕ) (bytes : List ℕ) : Type 0 where
+      pub replayed : Replayed h.berths h.copies
+      pub compares : (f : ℕ) → f < h.card.files → ComparesByte (slice_index bytes f) (replayed.history.behind a f) (replayed.history.behind b f)

@@ -1,5 +1,6 @@
-ghost use Rattle.std.specs.Prelude.{◌≡◌};
+ghost use Rattle.std.specs.Prelude.{◌≡◌, Some};
 ghost use Rattle.season.specs.declared.errors.OpenError.TheVariants.{Refused, OutOfMemory};
+ghost use Rattle.season.specs.Opens.{open_error_text};
 
 use clock::Fault;
 use std::alloc::{AllocError, AllocFailed};
@@ -15,6 +16,8 @@ pub enum OpenError {
 }
 
 impl fmt::Display for OpenError {
+    ghost output = { λ error. Some (open_error_text error) };
+
     fn fmt<W: fmt::Write>(&self, f: &mut fmt::Formatter<W>) -> fmt::Result {
         match self {
             OpenError::Refused(fault) => write!(f, "{fault}"),

@@ -10,8 +10,9 @@ use yard::Card;
 impl<K: Card, C: Clock, P: Payload> Season<K, C, P> {
     // By the law of histories, whatever calls led here: pens and clocks are well made.
     pub(crate) fn law(&self)
-        ensures made { Made C.meaning self.now.berths.items self.now.copies.items }
+        ensures made { Made C.meaning self.now.berths self.now.copies }
     {
+        let _ = &self.card;
         history_law::<C, P>()
     }
 }

@@ -26,7 +26,7 @@ impl<C: Clock, P: Payload> Season<OpenCard, C, P> {
         berth_count: usize,
         payloads: &[P],
     ) -> Result<Season<OpenCard, C, P>, OpenError>
-        ensures opened { IfOk result (λ s. Opened C.meaning berth_count payloads.now s.card s.berths.items s.copies.items) }
+        ensures opened { IfOk result (Opened C.meaning berth_count payloads.now) }
         ensures refused { within berth_count (length payloads.now) ≡ false → IsErrOf result (Refused (fault_of SizesCause)) }
         ensures accepted { within berth_count (length payloads.now) ≡ true → IsOkUnless result OutOfMemory }
     {

@@ -1,6 +1,6 @@
 ghost use Rattle.std.specs.Prelude.{◌≡◌, [], IfOk, OnOk};
-ghost use Rattle.history.specs.Checks.{left};
-ghost use Rattle.history.specs.Calls.{leaves, judge as judge_call, report as report_call};
+ghost use Rattle.history.specs.Calls.{judge as judge_call, report as report_call};
+ghost use Rattle.season.specs.Held.{left_in, leaves_in};
 ghost use Rattle.season.specs.Replays.{Behind, EachBehind};
 ghost use Rattle.season.specs.Shows.{show_result};
 
@@ -13,15 +13,15 @@ use yard::{Card, judge, report};
 impl<K: Card, C: Clock, P: Payload> Season<K, C, P> {
     /// How many berths and files the yard has.
     pub fn sizes(&self) -> Sizes
-        ensures { result ≡ K.sizes self.now.card }
+        ensures { result ≡ self.now.card }
     {
         self.card.sizes()
     }
 
     /// The verdict on berth a's copy of file f against b's.
     pub fn judge(&self, a: usize, b: usize, f: usize) -> Result<Verdict, Fault>
-        ensures result { left result self.now.berths.items self.now.copies.items [] ≡ leaves C.meaning P.same (judge_call (K.sizes self.now.card) a b f) self.now.berths.items self.now.copies.items }
-        ensures edits { IfOk result (λ v. ∥ Behind C.meaning P.same self.now.berths.items self.now.copies.items a b f v ∥₁) }
+        ensures result { left_in result self.now [] ≡ leaves_in C.meaning P.same self.now (judge_call self.now.card a b f) }
+        ensures edits { IfOk result (λ v. ∥ Behind C.meaning P.same self.now a b f v ∥₁) }
     {
         self.law();
         judge(&self.card, &self.berths, &self.copies, a, b, f)
@@ -35,8 +35,8 @@ impl<K: Card, C: Clock, P: Payload> Season<K, C, P> {
         a: usize,
         b: usize,
     ) -> Result<(usize, usize, usize, usize, usize), Fault>
-        ensures result { left result self.now.berths.items self.now.copies.items bytes.new ≡ leaves C.meaning P.same (report_call (K.sizes self.now.card) a b bytes.old) self.now.berths.items self.now.copies.items }
-        ensures edits { OnOk result ∥ EachBehind C.meaning P.same self.now.berths.items self.now.copies.items a b (K.sizes self.now.card).files bytes.new ∥₁ }
+        ensures result { left_in result self.now bytes.new ≡ leaves_in C.meaning P.same self.now (report_call self.now.card a b bytes.old) }
+        ensures edits { OnOk result ∥ EachBehind C.meaning P.same self.now a b bytes.new ∥₁ }
     {
         self.law();
         report(&self.card, &self.berths, &self.copies, bytes, a, b)
@@ -45,7 +45,7 @@ impl<K: Card, C: Clock, P: Payload> Season<K, C, P> {
     /// The pen of berth a and the clock of its copy of file f. Refused as `judge`
     /// is on that copy against itself.
     pub fn show(&self, a: usize, f: usize) -> Result<(C::Pen, C), Fault>
-        ensures result { result ≡ show_result C.meaning (K.sizes self.now.card) self.now.berths.items self.now.copies.items a f }
+        ensures result { result ≡ show_result C.meaning self.now a f }
     {
         let _ = self.judge(a, a, f)?;
         let files = self.card.files();

@@ -1,8 +1,7 @@
-ghost use Rattle.season.specs.Replays.{Replayed};
-
 use clock::Clock;
 use history::{Berth, Record};
 use payload::Payload;
+use std::marker::Model;
 use yard::Card;
 
 /// A yard with its tables and its card, open or sealed. Some list of calls leads
@@ -12,5 +11,16 @@ pub struct Season<K: Card, C: Clock, P: Payload> {
     pub(crate) card: K,
     pub(crate) berths: Vec<Berth<C::Pen>>,
     pub(crate) copies: Vec<Record<C, P>>,
-    ghost replayed: { ∥ Replayed C.meaning P.same berths.items copies.items ∥₁ },
+}
+
+/// A clause sees a season as its card's sizes and its two tables.
+impl<K: Card, C: Clock, P: Payload> Model for Season<K, C, P> {
+    ghost use Rattle.season.specs.Held.{Held, held};
+    ghost use Rattle.season.specs.Replays.{Replayed};
+
+    ghost Value = { Held C.Pen C P };
+
+    ghost view = { λ s. held (K.sizes s.card) s.berths.items s.copies.items };
+
+    ghost invariant = { λ s. ∥ Replayed C.meaning P.same s.berths.items s.copies.items ∥₁ };
 }

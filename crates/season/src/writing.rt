@@ -1,6 +1,6 @@
 ghost use Rattle.std.specs.Prelude.{◌≡◌, [], OnOk};
-ghost use Rattle.history.specs.Checks.{left};
-ghost use Rattle.history.specs.Calls.{leaves, fork as fork_call, edit as edit_call, pull as pull_call, settle as settle_call, retire as retire_call, drop as drop_call};
+ghost use Rattle.history.specs.Calls.{fork as fork_call, edit as edit_call, pull as pull_call, settle as settle_call, retire as retire_call, drop as drop_call};
+ghost use Rattle.season.specs.Held.{left_in, leaves_in};
 ghost use Rattle.season.specs.Replays.{EachBehind};
 
 use crate::seasons::Season;
@@ -11,7 +11,7 @@ use yard::{OpenCard, SealedCard, drop, edit, fork, pull, retire, seal, settle};
 impl<C: Clock, P: Payload> Season<OpenCard, C, P> {
     /// Working berth a gives empty berth b half of its pen, and its copies.
     pub fn fork(&mut self, a: usize, b: usize) -> Result<(), Fault>
-        ensures result { left result self.new.berths.items self.new.copies.items [] ≡ leaves C.meaning P.same (fork_call self.old.card a b) self.old.berths.items self.old.copies.items }
+        ensures result { left_in result self.new [] ≡ leaves_in C.meaning P.same self.old (fork_call self.old.card a b) }
         ensures card { self.new.card ≡ self.old.card }
     {
         self.law();
@@ -20,7 +20,7 @@ impl<C: Clock, P: Payload> Season<OpenCard, C, P> {
 
     /// Working berth a writes the payload into its copy of file f.
     pub fn edit(&mut self, a: usize, f: usize, payload: P) -> Result<(), Fault>
-        ensures result { left result self.new.berths.items self.new.copies.items [] ≡ leaves C.meaning P.same (edit_call self.old.card a f payload) self.old.berths.items self.old.copies.items }
+        ensures result { left_in result self.new [] ≡ leaves_in C.meaning P.same self.old (edit_call self.old.card a f payload) }
         ensures card { self.new.card ≡ self.old.card }
     {
         self.law();
@@ -31,8 +31,8 @@ impl<C: Clock, P: Payload> Season<OpenCard, C, P> {
     /// the verdict on b's copies against a's beforehand. Answers how many were
     /// taken, and how many files are in conflict.
     pub fn pull(&mut self, bytes: &mut [u8], a: usize, b: usize) -> Result<(usize, usize), Fault>
-        ensures result { left result self.new.berths.items self.new.copies.items bytes.new ≡ leaves C.meaning P.same (pull_call self.old.card a b bytes.old) self.old.berths.items self.old.copies.items }
-        ensures edits { OnOk result ∥ EachBehind C.meaning P.same self.old.berths.items self.old.copies.items b a self.old.card.files bytes.new ∥₁ }
+        ensures result { left_in result self.new bytes.new ≡ leaves_in C.meaning P.same self.old (pull_call self.old.card a b bytes.old) }
+        ensures edits { OnOk result ∥ EachBehind C.meaning P.same self.old b a bytes.new ∥₁ }
         ensures card { self.new.card ≡ self.old.card }
     {
         self.law();
@@ -41,7 +41,7 @@ impl<C: Clock, P: Payload> Season<OpenCard, C, P> {
 
     /// Working berth b ends the conflict of its copy of file f with a's.
     pub fn settle(&mut self, a: usize, b: usize, f: usize, payload: P) -> Result<(), Fault>
-        ensures result { left result self.new.berths.items self.new.copies.items [] ≡ leaves C.meaning P.same (settle_call self.old.card a b f payload) self.old.berths.items self.old.copies.items }
+        ensures result { left_in result self.new [] ≡ leaves_in C.meaning P.same self.old (settle_call self.old.card a b f payload) }
         ensures card { self.new.card ≡ self.old.card }
     {
         self.law();
@@ -50,7 +50,7 @@ impl<C: Clock, P: Payload> Season<OpenCard, C, P> {
 
     /// Working berth a hands its pen and its copies to working berth b.
     pub fn retire(&mut self, a: usize, b: usize) -> Result<(), Fault>
-        ensures result { left result self.new.berths.items self.new.copies.items [] ≡ leaves C.meaning P.same (retire_call self.old.card a b) self.old.berths.items self.old.copies.items }
+        ensures result { left_in result self.new [] ≡ leaves_in C.meaning P.same self.old (retire_call self.old.card a b) }
         ensures card { self.new.card ≡ self.old.card }
     {
         self.law();
@@ -59,7 +59,7 @@ impl<C: Clock, P: Payload> Season<OpenCard, C, P> {
 
     /// Berth a becomes empty.
     pub fn drop(&mut self, a: usize) -> Result<(), Fault>
-        ensures result { left result self.new.berths.items self.new.copies.items [] ≡ leaves C.meaning P.same (drop_call self.old.card a) self.old.berths.items self.old.copies.items }
+        ensures result { left_in result self.new [] ≡ leaves_in C.meaning P.same self.old (drop_call self.old.card a) }
         ensures card { self.new.card ≡ self.old.card }
     {
         self.law();
@@ -68,8 +68,7 @@ impl<C: Clock, P: Payload> Season<OpenCard, C, P> {
 
     /// Seals the yard: from now on it only reads.
     pub fn seal(self) -> Season<SealedCard, C, P>
-        ensures card { result.card ≡ self.card }
-        ensures tables { (result.berths ≡ self.berths) × (result.copies ≡ self.copies) }
+        ensures { result ≡ self }
     {
         Season {
             card: seal(self.card),

@@ -4,10 +4,11 @@
 -- bytes_text bytes        the bytes in decimal, a space after each
 -- byte_text b             one of them
 -- report_text, pull_text  the counts of a report and of a pull
--- answer_text q c a       the answer, where q and c are what a pen and a clock print; of a verdict nothing is claimed
-use Rattle.std.specs.Prelude.{ℕ, List, ◌++◌, take, codes, Option, Some, None}
+-- answer_text q c a       the answer, where q and c are what a pen and a clock print
+use Rattle.std.specs.Prelude.{ℕ, List, ◌++◌, take, codes, Option, Some}
 use Rattle.std.specs.Fmt.{decimal, ◌++?◌}
 use Rattle.std.specs.List.{flat_map}
+use Rattle.clock.specs.Verdicts.{verdict_word}
 use Rattle.history.specs.declared.tables.Sizes.{Sizes}
 use Rattle.season_log.specs.declared.answers.Answer.{Answer}
 use Rattle.season_log.specs.declared.answers.Answer.TheVariants.{Done, Opened, Judged, Reported, Pulled, Shown}
@@ -31,7 +32,7 @@ pull_text taken conflicts = codes "| taken " ++ (decimal taken ++ (codes " confl
 abbrev pub answer_text : {Q C : Type 0} → (Q → Option (List ℕ)) → (C → Option (List ℕ)) → Answer Q C → Option (List ℕ)
 answer_text q c Done = Some (codes "ok")
 answer_text q c (Opened s) = Some (sizes_text s)
-answer_text q c (Judged verdict) = None
+answer_text q c (Judged verdict) = Some (verdict_word verdict)
 answer_text q c (Reported bytes files equal stale ahead conflicts twins) = Some (bytes_text (take files bytes) ++ report_text equal stale ahead conflicts twins)
 answer_text q c (Pulled bytes files taken conflicts) = Some (bytes_text (take files bytes) ++ pull_text taken conflicts)
 answer_text q c (Shown pen clock) = q pen ++? Some (codes " ") ++? c clock

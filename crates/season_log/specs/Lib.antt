@@ -3,3 +3,4 @@ pub mod Openings
 pub mod Forms
 pub mod Calls
 pub mod Answers
+pub mod Mistakes

@@ -14,12 +14,12 @@
 mod answers;
 mod calls;
 mod mistakes;
+mod no_yard;
 mod numbers;
 mod openings;
-#[cfg(test)]
-mod tests;
 
 pub use answers::{Answer, Buffer};
 pub use calls::{Call, Reading, Writing, read_payload};
 pub use mistakes::{Mistake, PayloadError};
+pub use no_yard::without_yard;
 pub use openings::{Kind, Opening, PayloadKind};

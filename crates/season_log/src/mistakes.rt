@@ -1,5 +1,6 @@
-ghost use Rattle.std.specs.Prelude.{◌≡◌};
+ghost use Rattle.std.specs.Prelude.{◌≡◌, Some};
 ghost use Rattle.season_log.specs.declared.mistakes.PayloadError.TheVariants.{Valve, Ticket};
+ghost use Rattle.season_log.specs.Mistakes.{mistake_text, payload_error_text};
 
 use payload::{DecimalError, TicketError, ValveError};
 use std::error::Error;
@@ -27,6 +28,8 @@ pub enum Mistake<'a> {
 }
 
 impl fmt::Display for Mistake<'_> {
+    ghost output = { λ mistake. Some (mistake_text mistake) };
+
     fn fmt<W: fmt::Write>(&self, f: &mut fmt::Formatter<W>) -> fmt::Result {
         match self {
             Mistake::UnknownCall(name) => write!(f, "no call is named '{name}'"),
@@ -87,6 +90,8 @@ impl From<TicketError> for PayloadError {
 }
 
 impl fmt::Display for PayloadError {
+    ghost output = { λ error. Some (payload_error_text error) };
+
     fn fmt<W: fmt::Write>(&self, f: &mut fmt::Formatter<W>) -> fmt::Result {
         match self {
             PayloadError::Valve(ValveError::UnknownWord) => write!(

@@ -5,38 +5,13 @@
 
 #![tactic(auto)]
 
-mod applying;
-mod calls;
-mod cards;
-mod drawing;
-mod edit_sets;
-mod generator;
-mod heights;
-mod kinds;
-mod model;
-mod names;
-mod openings;
-mod pair;
-mod places;
-mod plans;
-mod samples;
-mod scripts;
-mod seasons;
-mod tables;
-mod tally;
-mod trees;
-
-use crate::kinds::Kind;
-use crate::names::Names;
-use crate::openings::try_openings;
-use crate::plans::{LIMITS, NAME_COUNT, ORDINARIES, TREE_COUNT};
-use crate::samples::{Label, Sample};
-use crate::seasons::season;
-use crate::tally::Tally;
-use crate::trees::Trees;
 use anyhow::{Result, ensure};
 use clock::Clock;
+use edit_model::{Kind, Names, Trees};
 use payload::{Ticket, Valve};
+use season_pairs::{
+    LIMITS, Label, NAME_COUNT, ORDINARIES, Sample, TREE_COUNT, Tally, season, try_openings,
+};
 use std::fmt::Display;
 use tree_clock::TreeClock;
 use vector_clock::VectorClock;
@@ -49,23 +24,10 @@ fn run(rt: &(impl Print + AllocGlobal)) -> Result<()> {
     let mut total = Tally::none();
     try_all::<TreeClock, Trees, Ticket>(rt)?;
     try_all::<VectorClock, Names, Valve>(rt)?;
-    ordinary::<TreeClock, Trees, Valve>(rt, &mut total)?;
-    ordinary::<TreeClock, Trees, Ticket>(rt, &mut total)?;
-    ordinary::<TreeClock, Trees, Label>(rt, &mut total)?;
-    ordinary::<VectorClock, Names, Valve>(rt, &mut total)?;
-    ordinary::<VectorClock, Names, Ticket>(rt, &mut total)?;
-    ordinary::<VectorClock, Names, Label>(rt, &mut total)?;
-    for plan in &LIMITS {
-        season::<TreeClock, Trees, Label>(rt, plan, &mut total)?;
-        season::<VectorClock, Names, Ticket>(rt, plan, &mut total)?;
-    }
-    season::<TreeClock, Trees, Valve>(rt, &TREE_COUNT, &mut total)?;
-    season::<VectorClock, Names, Label>(rt, &NAME_COUNT, &mut total)?;
-    println!(rt; "in all")?;
-    total.print(rt)?;
-    check_causes(&total)?;
-    println!(rt; "0 differences")?;
-    Ok(())
+    ordinaries::<TreeClock, Trees>(rt, &mut total)?;
+    ordinaries::<VectorClock, Names>(rt, &mut total)?;
+    limits(rt, &mut total)?;
+    sum_up(rt, &total)
 }
 
 // The openings, and what was tried.
@@ -79,6 +41,18 @@ fn try_all<C: Clock, M: Kind, P: Sample>(rt: &(impl Print + AllocGlobal)) -> Res
     Ok(())
 }
 
+// The ordinary seasons of a kind, with each payload.
+fn ordinaries<C, M>(rt: &(impl Print + AllocGlobal), total: &mut Tally) -> Result<()>
+where
+    C: Clock + Display,
+    C::Pen: Display,
+    M: Kind,
+{
+    ordinary::<C, M, Valve>(rt, total)?;
+    ordinary::<C, M, Ticket>(rt, total)?;
+    ordinary::<C, M, Label>(rt, total)
+}
+
 // The ordinary seasons of a kind and a payload.
 fn ordinary<C, M, P>(rt: &(impl Print + AllocGlobal), total: &mut Tally) -> Result<()>
 where
@@ -90,6 +64,24 @@ where
     for plan in &ORDINARIES {
         season::<C, M, P>(rt, plan, total)?;
     }
+    Ok(())
+}
+
+// The seasons that drive pens and clocks to their limits.
+fn limits(rt: &(impl Print + AllocGlobal), total: &mut Tally) -> Result<()> {
+    for plan in &LIMITS {
+        season::<TreeClock, Trees, Label>(rt, plan, total)?;
+        season::<VectorClock, Names, Ticket>(rt, plan, total)?;
+    }
+    season::<TreeClock, Trees, Valve>(rt, &TREE_COUNT, total)?;
+    season::<VectorClock, Names, Label>(rt, &NAME_COUNT, total)
+}
+
+fn sum_up(rt: &impl Print, total: &Tally) -> Result<()> {
+    println!(rt; "in all")?;
+    total.print(rt)?;
+    check_causes(total)?;
+    println!(rt; "0 differences")?;
     Ok(())
 }
 

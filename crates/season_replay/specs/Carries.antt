@@ -2,17 +2,15 @@
 --
 -- zeros              a buffer before a call writes it
 -- answered g l       what a call leaves, with its answer, and its buffer, in the form that a log prints
--- read_answer r      what a call that reads is answered
--- write_left w       what a call that writes is answered and leaves
+-- read_answer h r    what a call that reads is answered in the season h
+-- write_left h w     what a call that writes is answered, and leaves of the season h
 use Rattle.std.specs.Prelude.{ℕ, Bool, List, [], Ok, Err, Result}
 use Rattle.std.specs.Prelude.{replicate}
 use Rattle.clock.specs.declared.faults.Fault.{Fault}
 use Rattle.clock.specs.Meaning.{Meaning}
-use Rattle.history.specs.declared.tables.Berth.{Berth}
-use Rattle.history.specs.declared.tables.Record.{Record}
-use Rattle.history.specs.Tables.{Card}
 use Rattle.history.specs.Checks.{Left, left}
-use Rattle.history.specs.Calls.{leaves, judge, report, fork, edit, pull, settle, retire, drop}
+use Rattle.history.specs.Calls.{judge, report, fork, edit, pull, settle, retire, drop}
+use Rattle.season.specs.Held.{Held, leaves_in}
 use Rattle.season.specs.Shows.{show_result}
 use Rattle.season_log.specs.declared.answers.Answer.{Answer}
 use Rattle.season_log.specs.declared.answers.Answer.TheVariants.{Done, Judged, Reported, Pulled, Shown}
@@ -32,16 +30,16 @@ module _ {Pen C P : Type 0} where
   abbrev pub answered : {A : Type 0} → (A → List ℕ → Answer Pen C) → Left Pen C P A → Left Pen C P (Answer Pen C)
   answered g l = left (in_form (λ x. g x l.bytes) l.answer) l.berths l.copies []
 
-  module _ (m : Meaning Pen C) (alike : P → P → Bool) (card : Card) (bs : List (Berth Pen)) (cs : List (Record C P)) where
+  module _ (m : Meaning Pen C) (alike : P → P → Bool) (h : Held Pen C P) where
     abbrev pub read_answer : Reading → Result (Answer Pen C) Fault
-    read_answer (Judge a b f) = in_form Judged (leaves m alike (judge card a b f) bs cs).answer
-    read_answer (Report a b) = (answered (λ n bytes. Reported bytes card.files n.0 n.1 n.2 n.3 n.4) (leaves m alike (report card a b zeros) bs cs)).answer
-    read_answer (Show a f) = in_form (λ x. Shown x.0 x.1) (show_result m card bs cs a f)
+    read_answer (Judge a b f) = in_form Judged (leaves_in m alike h (judge h.card a b f)).answer
+    read_answer (Report a b) = (answered (λ n bytes. Reported bytes h.card.files n.0 n.1 n.2 n.3 n.4) (leaves_in m alike h (report h.card a b zeros))).answer
+    read_answer (Show a f) = in_form (λ x. Shown x.0 x.1) (show_result m h a f)
 
     abbrev pub write_left : Writing P → Left Pen C P (Answer Pen C)
-    write_left (Fork a b) = answered (λ x bytes. Done) (leaves m alike (fork card a b) bs cs)
-    write_left (Edit a f p) = answered (λ x bytes. Done) (leaves m alike (edit card a f p) bs cs)
-    write_left (Pull a b) = answered (λ n bytes. Pulled bytes card.files n.0 n.1) (leaves m alike (pull card a b zeros) bs cs)
-    write_left (Settle a b f p) = answered (λ x bytes. Done) (leaves m alike (settle card a b f p) bs cs)
-    write_left (Retire a b) = answered (λ x bytes. Done) (leaves m alike (retire card a b) bs cs)
-    write_left (Drop a) = answered (λ x bytes. Done) (leaves m alike (drop card a) bs cs)
+    write_left (Fork a b) = answered (λ x bytes. Done) (leaves_in m alike h (fork h.card a b))
+    write_left (Edit a f p) = answered (λ x bytes. Done) (leaves_in m alike h (edit h.card a f p))
+    write_left (Pull a b) = answered (λ n bytes. Pulled bytes h.card.files n.0 n.1) (leaves_in m alike h (pull h.card a b zeros))
+    write_left (Settle a b f p) = answered (λ x bytes. Done) (leaves_in m alike h (settle h.card a b f p))
+    write_left (Retire a b) = answered (λ x bytes. Done) (leaves_in m alike h (retire h.card a b))
+    write_left (Drop a) = answered (λ x bytes. Done) (leaves_in m alike h (drop h.card a))

@@ -1,5 +1,5 @@
 ghost use Rattle.std.specs.Prelude.{◌≡◌, []};
-ghost use Rattle.history.specs.Checks.{left};
+ghost use Rattle.season.specs.Held.{left_in};
 ghost use Rattle.season_log.specs.declared.calls.Writing.TheVariants.{Pull};
 ghost use Rattle.season_replay.specs.Carries.{read_answer, write_left};
 
@@ -12,7 +12,7 @@ use yard::{Card, OpenCard};
 
 /// What a call that reads is answered.
 pub fn read<K: Card, C: Clock, P: Payload>(season: &Season<K, C, P>, call: Reading) -> Answered<C>
-    ensures { result ≡ read_answer C.meaning P.same (K.sizes season.now.card) season.now.berths.items season.now.copies.items call }
+    ensures { result ≡ read_answer C.meaning P.same season.now call }
 {
     match call {
         Reading::Judge { a, b, f } => Ok(Answer::Judged(season.judge(a, b, f)?)),
@@ -41,7 +41,7 @@ pub fn write<C: Clock, P: Payload>(
     season: &mut Season<OpenCard, C, P>,
     call: Writing<P>,
 ) -> Answered<C>
-    ensures result { left result season.new.berths.items season.new.copies.items [] ≡ write_left C.meaning P.same season.old.card season.old.berths.items season.old.copies.items call }
+    ensures result { left_in result season.new [] ≡ write_left C.meaning P.same season.old call }
     ensures card { season.new.card ≡ season.old.card }
 {
     match call {
@@ -60,7 +60,7 @@ fn pull<C: Clock, P: Payload>(
     a: usize,
     b: usize,
 ) -> Answered<C>
-    ensures result { left result season.new.berths.items season.new.copies.items [] ≡ write_left C.meaning P.same season.old.card season.old.berths.items season.old.copies.items (Pull a b) }
+    ensures result { left_in result season.new [] ≡ write_left C.meaning P.same season.old (Pull a b) }
     ensures card { season.new.card ≡ season.old.card }
 {
     let mut bytes = [0; 32];

@@ -1,3 +1,8 @@
+ghost use Rattle.std.specs.Prelude.{◌≡◌, true, false, IsOkAnd, IsErrOf};
+ghost use Rattle.season_log.specs.declared.mistakes.Mistake.TheVariants.{Sealed as SealedMistake};
+ghost use Rattle.season_replay.specs.declared.yards.Yard.TheVariants.{Open};
+ghost use Rattle.season_replay.specs.Yards.{takes, Carried};
+
 use crate::calls::{read, write};
 use clock::{Clock, Fault};
 use payload::Payload;
@@ -22,7 +27,10 @@ impl<C: Clock, P: Payload> Yard<C, P> {
         self,
         name: &'a str,
         call: Call<P>,
-    ) -> Result<(Yard<C, P>, Answered<C>), Mistake<'a>> {
+    ) -> Result<(Yard<C, P>, Answered<C>), Mistake<'a>>
+        ensures carried { takes self call ≡ true → IsOkAnd result (λ x. Carried C.meaning P.same self call x.0 x.1) }
+        ensures mistake { takes self call ≡ false → IsErrOf result (SealedMistake name.entry) }
+    {
         match self {
             Yard::Open(season) => Ok(in_open(season, call)),
             Yard::Sealed(season) => match call {
@@ -39,16 +47,13 @@ impl<C: Clock, P: Payload> Yard<C, P> {
 fn in_open<C: Clock, P: Payload>(
     mut season: Season<OpenCard, C, P>,
     call: Call<P>,
-) -> (Yard<C, P>, Answered<C>) {
-    match call {
-        Call::Reads(call) => {
-            let answer = read(&season, call);
-            (Yard::Open(season), answer)
-        }
-        Call::Writes(call) => {
-            let answer = write(&mut season, call);
-            (Yard::Open(season), answer)
-        }
-        Call::Seal => (Yard::Sealed(season.seal()), Ok(Answer::Done)),
-    }
+) -> (Yard<C, P>, Answered<C>)
+    ensures { Carried C.meaning P.same (Open season) call result.0 result.1 }
+{
+    let answer = match call {
+        Call::Reads(call) => read(&season, call),
+        Call::Writes(call) => write(&mut season, call),
+        Call::Seal => return (Yard::Sealed(season.seal()), Ok(Answer::Done)),
+    };
+    (Yard::Open(season), answer)
 }

@@ -36,15 +36,12 @@ reached_more off e u h = absurd (clash' h)
 reached_more on e u h = absurd (clash' h)
 reached_more (pair l r) e u h = reached_pair l r e u
 
--- n is the base, and cl and cr what growing the branches costs
-module _ (i : Id) (e : Event) (k : is_leaf (shape i) ≡ false) (n : ℕ) (en : n ≡ base e) (cl cr : ℕ) (p : cl ≡ cost (id_lo i) (lo e)) (q : cr ≡ cost (id_hi i) (hi e)) where
-  turned : lowers (is_off (id_lo i)) (is_off (id_hi i)) cl cr ≡ turn i e
-  turned = rw (p, q)
+-- n is the base
+module _ (i : Id) (e : Event) (k : is_leaf (shape i) ≡ false) (n : ℕ) (en : n ≡ base e) where
+  pub lower_grown : true ≡ turn i e → (l : Id) (a b : Event) → l ≡ id_lo i → a ≡ lo e → b ≡ hi e → grow i e ≡ node n (grow l a) b
+  lower_grown h l a b il ea eb = rw (grow_more i e k, ← h, il, ea, eb, en)
 
-  pub lower_grown : true ≡ lowers (is_off (id_lo i)) (is_off (id_hi i)) cl cr → (l : Id) (a b : Event) → l ≡ id_lo i → a ≡ lo e → b ≡ hi e → grow i e ≡ node n (grow l a) b
-  lower_grown h l a b il ea eb = rw (grow_more i e k, ← turned, ← h, il, ea, eb, en)
-
-  pub upper_grown : false ≡ lowers (is_off (id_lo i)) (is_off (id_hi i)) cl cr → (r : Id) (a b : Event) → r ≡ id_hi i → a ≡ lo e → b ≡ hi e → grow i e ≡ node n a (grow r b)
-  upper_grown h r a b ir ea eb = rw (grow_more i e k, ← turned, ← h, ir, ea, eb, en)
+  pub upper_grown : false ≡ turn i e → (r : Id) (a b : Event) → r ≡ id_hi i → a ≡ lo e → b ≡ hi e → grow i e ≡ node n a (grow r b)
+  upper_grown h r a b ir ea eb = rw (grow_more i e k, ← h, ir, ea, eb, en)
 
 pub ruleset growing = (from_long, written_long, grow_one, reached_one, grow_more, reached_more, size_pos, top-lo, top-hi)

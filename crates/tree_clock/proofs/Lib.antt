@@ -10,3 +10,4 @@ pub mod Filling
 pub mod GrowCost
 pub mod GrowCode
 pub mod Public
+pub mod Showing

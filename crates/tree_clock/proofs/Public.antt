@@ -1,5 +1,5 @@
 -- What the public operations on pens and clocks share.
-use Rattle.std.proofs.Common.{◌≡◌, ◌≤◌, Bool, true, false, ◌↔◌, Ok, None, Result, sym, ap, ◌∙◌, arith, le-ltb}
+use Rattle.std.proofs.Common.{◌≡◌, ◌≤◌, List, Bool, true, false, ◌↔◌, Ok, None, Result, sym, ap, ap₂, ◌∙◌, arith, le-ltb}
 use Rattle.clock.specs.declared.faults.Fault.{Fault}
 use Rattle.clock.specs.declared.verdicts.Verdict.{Verdict}
 use Rattle.clock.specs.declared.verdicts.Verdict.TheVariants.{Equal}
@@ -26,8 +26,10 @@ use Rattle.tree_rules.proofs.RulesHold.{event_rules}
 use Rattle.tree_rules.proofs.Shapes.{size-shape, top-shape, shape_injective}
 use Rattle.tree_clock.specs.declared.clocks.TreeClock.{TreeClock}
 use Rattle.tree_clock.specs.declared.pens.TreePen.{TreePen}
+use Rattle.tree_clock.specs.declared.nodes.Node.{Node}
+use Rattle.tree_clock.specs.Flat.{stored}
 use Rattle.tree_clock.specs.Growth.{past_limits}
-use Rattle.tree_clock.specs.Operations.{unite_answer, event_answer, covers_answer, verdict_answer}
+use Rattle.tree_clock.specs.Operations.{fork_answer, unite_answer, event_answer, covers_answer, verdict_answer}
 use Rattle.tree_clock.specs.Reading.{clock_facts, clock_is, pen_is, pen_id}
 use Rattle.tree_clock.specs.Stored.{id_of, event_of, pen_of, clock_of, pen_made, clock_made, SameMakes, SameKnows, tree_kind}
 use Rattle.tree_clock.specs.StoredSound.{same_marks, tree_kind_sound}
@@ -51,6 +53,12 @@ half_fits p h i j q e q' u = rw q' (fits u)
     fits : (u : Bool) → id_size (half u (id_of p)) ≤ 63
     fits false = (made_id _ (fork (id_of p) (pen_id p h) none-due).first_made).2
     fits true = (made_id _ (fork (id_of p) (pen_id p h) none-due).second_made).2
+
+-- the halves of a pen that can be parted, as they are stored
+pub fork_done : (p : TreePen) (i : Id) → i ≡ id_of p → false ≡ unsplittable 12 i → (s t : List Node) → s ≡ stored (shape (half false (id_of p))) → t ≡ stored (shape (half true (id_of p))) → ◌≡◌ {A = Result (TreePen × TreePen) Fault} (Ok (record { stored = record { nodes = s } }, record { stored = record { nodes = t } })) (fork_answer p)
+fork_done p i q e s t a b =
+    let n : split_due (id_of p) ≡ None = rw (sym (e ∙ ap (unsplittable 12) q)) in
+    rw n (ap₂ {C = Result (TreePen × TreePen) Fault} (λ s t. Ok (record { stored = record { nodes = s } }, record { stored = record { nodes = t } })) a b)
 
 -- two pens, or two clocks, are one where what they hold is
 module _ (p q : TreePen) (h : Yes (pen_made p)) (g : Yes (pen_made q)) (r : Bool) (s t : Event) (v : s ≡ shape (id_of p)) (w : t ≡ shape (id_of q)) (z : r ≡ same_event s t) where
@@ -99,12 +107,9 @@ module _ (c d : TreeClock) (h : Yes (clock_made c)) (g : Yes (clock_made d)) whe
   pub compared : (v : Verdict) → v ≡ verdict_answer c d → ComparesMarks tree_kind c d v
   compared v e = rw e (compares_marks tree_kind tree_kind_sound c d h g)
 
--- the union of two pens that do not meet, t being the shape of the sum
-pub unite_done : (p q : TreePen) → overlap (id_of p) (id_of q) ≡ false → (t : Event) → t ≡ shape (sum (id_of p) (id_of q)) → size t ≤ 63 → (k : Id) → k ≡ as_id t → (r : TreePen) → r ≡ pen_of k → ◌≡◌ {A = Result TreePen Fault} (Ok r) (unite_answer p q)
-unite_done p q v t j m k e r z =
-    let s : k ≡ sum (id_of p) (id_of q) = e ∙ ap as_id j ∙ as_id-shape (sum (id_of p) (id_of q)) in
-    let n : id_size (sum (id_of p) (id_of q)) ≤ 63 = omega (arith, size-shape (sum (id_of p) (id_of q)), ap size j) in
-    rw (v, le-ltb 63 (id_size (sum (id_of p) (id_of q))) n) (ap Ok (z ∙ ap pen_of s))
+-- the union of two pens that do not meet
+pub unite_fits : (p q : TreePen) → overlap (id_of p) (id_of q) ≡ false → id_size (sum (id_of p) (id_of q)) ≤ 63 → (r : TreePen) → r ≡ pen_of (sum (id_of p) (id_of q)) → ◌≡◌ {A = Result TreePen Fault} (Ok r) (unite_answer p q)
+unite_fits p q v n r z = rw (v, le-ltb 63 (id_size (sum (id_of p) (id_of q))) n) (ap Ok z)
 
 -- an event, under an id that is not 0
 module _ (p : TreePen) (c : TreeClock) (k : false ≡ is_off (id_of p)) where

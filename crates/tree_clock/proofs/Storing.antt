@@ -1,7 +1,8 @@
 -- A tree as it is stored.
-use Rattle.std.proofs.Common.{◌≡◌, ℕ, ◌+◌, ◌-◌, ◌<◌, List, [], ◌∷◌, ◌++◌, length, take, drop, set, replicate, sym, refl, ap, ◌∙◌, ap₂, append_assoc, arith, take_at, take-append-drop}
+use Rattle.std.proofs.Common.{◌≡◌, ℕ, ◌+◌, ◌-◌, ◌<◌, List, [], ◌∷◌, ◌++◌, length, take, drop, set, get_or, replicate, sym, refl, ap, ◌∙◌, ap₂, append_assoc, arith, take_at, take-append-drop}
 use Rattle.std.proofs.lemmas.List.{drop-replicate}
 use Rattle.tree_rules.specs.Events.{Event, leaf, node, size}
+use Rattle.tree_rules.proofs.Norms.{size_pos}
 use Rattle.tree_clock.specs.declared.nodes.Node.{Node}
 use Rattle.tree_clock.specs.Flat.{flat, filler, pad, stored, Laid, Stands}
 use Rattle.tree_clock.specs.FlatForm.{first, flat_length}
@@ -27,6 +28,11 @@ stored_stands s e p =
 pub leaf_stands : (v : ℕ) (o : List Node) → 0 < length o → Stands (set o 0 (record { base = v; size = 1 })) 1 (leaf v)
 leaf_stands v [] h = absurd (omega arith)
 leaf_stands v (x ∷ o) h = (refl, refl)
+
+-- a list of one node is copied by hand
+pub one_stands : (s o : List Node) (e : Event) → s ≡ flat e → length s ≡ 1 → 0 < length o → Stands (set o 0 (get_or s 0 filler)) 1 e
+one_stands s o (leaf n) p k h = rw p (leaf_stands n o h)
+one_stands s o (node n l r) p k h = absurd (omega (arith, ap length p, flat_length (node n l r), size_pos l))
 
 -- a root over two branches
 pub root_stands : (n mid end : ℕ) (o : List Node) (l r : Event) → Laid o mid end l r → Stands (set o 0 (record { base = n; size = end })) end (node n l r)

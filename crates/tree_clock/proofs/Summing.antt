@@ -23,7 +23,7 @@ size-norm_id l r =
     cond_both (is_off l && is_off r) off _ (λ i. id_size i ≤ 1 + (id_size l + id_size r)) (λ _. omega arith)
     (λ _. cond_both (is_on l && is_on r) on (pair l r) (λ i. id_size i ≤ 1 + (id_size l + id_size r)) (λ _. omega arith) (λ _. omega arith))
 
-size-sum : (i j : Id) → id_size (sum i j) + 1 ≤ id_size i + id_size j
+pub size-sum : (i j : Id) → id_size (sum i j) + 1 ≤ id_size i + id_size j
 size-sum off j = omega arith
 size-sum on j = omega (arith, id_size_pos j)
 size-sum (pair l r) off = omega arith

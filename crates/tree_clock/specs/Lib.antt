@@ -10,3 +10,4 @@ pub mod Carrying
 pub mod Reading
 pub mod FlatForm
 pub mod Trees
+pub mod Texts

@@ -7,6 +7,7 @@ ghost use Rattle.tree_clock.specs.Operations.{join_answer, covers_answer, verdic
 ghost use Rattle.tree_clock.specs.Stored.{clock_of, event_of, clock_made, SameKnows, tree_kind};
 
 use crate::covers::covers_from;
+use crate::fault::fault;
 use crate::join::join_into;
 use crate::nodes::{MOST_NODES, Node, ROOM, fillers};
 use crate::stored::Stored;
@@ -61,7 +62,7 @@ impl TreeClock {
         let mut out: [Node; ROOM] = fillers();
         let n = join_into(self.tree(), 0, other.tree(), 0, &mut out);
         if n > MOST_NODES {
-            return Err(Cause::ClockTooLarge.into());
+            return Err(fault(Cause::ClockTooLarge));
         }
         Ok(TreeClock::of(&Tree::front(&out, n)))
     }

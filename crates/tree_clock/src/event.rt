@@ -10,11 +10,13 @@ ghost use Rattle.tree_clock.specs.Operations.{event_answer};
 ghost use Rattle.tree_clock.specs.Stored.{clock_of, pen_made, clock_made, tree_kind};
 
 use crate::clocks::TreeClock;
+use crate::fault::fault;
 use crate::fill::fill_into;
 use crate::grow::grow_leaf;
 use crate::ids::IdTree;
 use crate::nodes::{MOST_NODES, MOST_VALUE, Node, ROOM, fillers};
 use crate::pens::TreePen;
+use crate::stored::Stored;
 use crate::tree::Tree;
 use clock::{Cause, Fault};
 
@@ -23,40 +25,58 @@ impl TreeClock {
     /// changes it, else grown. Refused with 14 exactly where the id is 0, else
     /// with 15 exactly where it has more than 63 nodes, else with 16 exactly
     /// where a value passes 65,535.
-    #[tactic(auto, using(crate::proofs::Public::fills))]
     pub fn event(&self, pen: &TreePen) -> Result<TreeClock, Fault>
         requires made { (Yes (clock_made self.now)) × (Yes (pen_made pen.now)) }
         ensures result { result ≡ event_answer pen.now self.now }
         ensures marks { IfOk result (λ c. Evented tree_kind pen.now self.now c) }
     {
+        // one place for the clock, whichever way it is made: a `Result` that comes from two is moved more often
+        let mut made = TreeClock {
+            stored: Stored::fillers(),
+        };
+        match self.event_into(pen, &mut made) {
+            None => Ok(made),
+            Some(cause) => Err(fault(cause)),
+        }
+    }
+
+    // Leaves in `made` the clock after the event, or answers why there is none.
+    #[inline(always)]
+    #[tactic(auto, using(crate::proofs::Public::fills))]
+    fn event_into(&self, pen: &TreePen, made: &mut TreeClock) -> Option<Cause>
+        requires made { (Yes (clock_made self.now)) × (Yes (pen_made pen.now)) }
+        ensures { answered result made.new ≡ event_answer pen.now self.now }
+    {
         if pen.id().is_zero() {
-            return Err(Cause::PenSpent.into());
+            return Some(Cause::PenSpent);
         }
-        let mut out: [Node; ROOM] = fillers();
-        let n = fill_into(pen.id(), self.tree(), &mut out);
-        let filled = Tree::front(&out, n);
-        if filled == self.tree() {
-            return grown(pen.id(), self.tree());
+        let n = fill_into(pen.id(), self.tree(), &mut made.stored.nodes);
+        if Tree::front(&made.stored.nodes, n) == self.tree() {
+            return grown(pen.id(), self.tree(), made);
         }
-        Ok(TreeClock::of(&filled))
+        made.stored.trim(n);
+        None
     }
 }
 
-// The tree grown under the id, or its refusal. Here and below an id and a tree are two
-// parameters: a pen's id and a clock's tree are two things.
+// Leaves in `made` the tree grown under the id, or answers why there is none. Here and below an id
+// and a tree are two parameters: a pen's id and a clock's tree are two things.
+// Not inlined: `event` would lay out the places that it needs, also where nothing grows.
+#[inline(never)]
 #[tactic(auto, using(crate::proofs::Public::grows))]
-fn grown(id: IdTree, e: Tree) -> Result<TreeClock, Fault>
+fn grown(id: IdTree, e: Tree, made: &mut TreeClock) -> Option<Cause>
     requires id { NormalId id × (id_depth id ≤ 12) × (is_off id ≡ false) }
     requires tree { (size_of e ≤ 63) × (top e ≤ 65535) }
-    ensures { result ≡ answered (past_limits (grow_of id.entry e.entry)) (clock_of (grow_of id.entry e.entry)) }
+    ensures { answered result made.new ≡ answered (past_limits (grow_of id.entry e.entry)) (clock_of (grow_of id.entry e.entry)) }
 {
     let mut out: [Node; ROOM] = fillers();
     let (n, value) = grow_leaf(id, e, 0, 12, &mut out);
     if n > MOST_NODES {
-        return Err(Cause::ClockTooLarge.into());
+        return Some(Cause::ClockTooLarge);
     }
     if value > MOST_VALUE {
-        return Err(Cause::AtLimit.into());
+        return Some(Cause::AtLimit);
     }
-    Ok(TreeClock::of(&Tree::front(&out, n)))
+    *made = TreeClock::of(&Tree::front(&out, n));
+    None
 }

@@ -12,7 +12,9 @@ use crate::nodes::{Node, leaf_into};
 use crate::norm::close;
 use crate::tree::Tree;
 
-// The largest value of a tree.
+// The largest value of a tree. Inlined with a function of its own for branches, as `fill_into` is.
+#[inline(always)]
+#[cycle(highest_highest_branch)]
 fn highest(e: Tree) -> u16
     requires { top e ≤ 65535 }
     ensures { result ≡ top e.entry }
@@ -20,7 +22,17 @@ fn highest(e: Tree) -> u16
     if e.is_leaf() {
         return e.base();
     }
-    e.base() + highest(e.lower()).max(highest(e.upper()))
+    highest_branch(e)
+}
+
+// The same for a triple.
+#[cycle(highest_highest_branch)]
+fn highest_branch(e: Tree) -> u16
+    requires below { top e ≤ 65535 }
+    requires triple { leaf_test e ≡ false }
+    ensures { result ≡ top e.entry }
+{
+    e.base() + highest(e.lower_branch()).max(highest(e.upper_branch()))
 }
 
 // Raises the leaf at `at` to the base of the tree at `by`: one of them is the
@@ -41,13 +53,14 @@ fn raise(out: &mut [Node], at: usize, by: usize)
 
 // Closes the triple of `base` and two filled branches, as the side of the id that is 1 asks.
 fn fill_close(id: &IdTree, base: u16, mid: usize, end: usize, out: &mut [Node]) -> usize
-    requires { (l r : Event) × Sides out.old mid end (is_on (id_lo id.now)) (is_on (id_hi id.now)) l r × High base l r × (end ≤ 65535) }
+    requires pair { leaf_test (shape id.now) ≡ false }
+    requires given { (l r : Event) × Sides out.old mid end (is_on (id_lo id.now)) (is_on (id_hi id.now)) l r × High base l r × (end ≤ 65535) }
     ensures stands { (l r : Event) → Sides out.old mid end (is_on (id_lo id.now)) (is_on (id_hi id.now)) l r → Stands out.new result (filled (is_on (id_lo id.now)) (is_on (id_hi id.now)) base l r l r) }
     ensures long { length out.new ≡ length out.old }
 {
-    if id.lower().is_one() {
+    if id.lower_side().is_one() {
         raise(out, 1, mid);
-    } else if id.upper().is_one() {
+    } else if id.upper_side().is_one() {
         raise(out, mid, 1);
     }
     close(out, base, mid, end)
@@ -87,7 +100,7 @@ fn fill_branches(id: IdTree, e: Tree, out: &mut [Node]) -> usize
     ensures stands { Stands out.new result (fill id.entry e.entry) }
     ensures long { length out.new ≡ length out.old }
 {
-    let mid = 1 + fill_into(id.lower(), e.lower(), &mut out[1..]);
-    let end = mid + fill_into(id.upper(), e.upper(), &mut out[mid..]);
+    let mid = 1 + fill_into(id.lower_side(), e.lower_branch(), &mut out[1..]);
+    let end = mid + fill_into(id.upper_side(), e.upper_branch(), &mut out[mid..]);
     fill_close(&id, e.base(), mid, end, out)
 }

@@ -1,5 +1,5 @@
 ghost use Rattle.std.specs.Prelude.{◌≡◌, ◌*◌, ◌≤◌, false, length};
-ghost use Rattle.tree_rules.specs.Events.{size as size_of};
+ghost use Rattle.tree_rules.specs.Events.{size as size_of, lo, hi};
 ghost use Rattle.tree_rules.specs.Ids.{id_depth, is_off};
 ghost use Rattle.tree_rules.specs.Shape.{shape};
 ghost use Rattle.tree_rules.specs.Grow.{lowers, cost, grow};
@@ -12,20 +12,7 @@ use crate::ids::IdTree;
 use crate::nodes::{Node, leaf_into, root_into};
 use crate::tree::Tree;
 
-// Whether the lower branch grows: not under (0,r), under (l,0), and else where it costs less.
-fn lower_grows(id: &IdTree, low: u32, high: u32) -> bool
-    ensures { result ≡ lowers (is_off (id_lo id.now)) (is_off (id_hi id.now)) low high }
-{
-    if id.lower().is_zero() {
-        false
-    } else if id.upper().is_zero() {
-        true
-    } else {
-        low < high
-    }
-}
-
-// What growing `e` under the id costs.
+// What growing `e` under the id costs. A side that is 0 does not grow, so no cost of it is asked for.
 #[tactic(auto, using(crate::proofs::GrowCost::costs))]
 pub(crate) fn growth_cost(id: IdTree, e: Tree, left: u8) -> u32
     requires { id_depth id ≤ left }
@@ -35,15 +22,33 @@ pub(crate) fn growth_cost(id: IdTree, e: Tree, left: u8) -> u32
     if id.is_leaf() {
         return 0;
     }
+    let extra = if e.is_leaf() { 1000 } else { 0 };
+    if id.lower().is_zero() {
+        return growth_cost(id.upper(), e.upper(), left - 1) + 1 + extra;
+    }
+    if id.upper().is_zero() {
+        return growth_cost(id.lower(), e.lower(), left - 1) + 1 + extra;
+    }
     let low = growth_cost(id.lower(), e.lower(), left - 1);
     let high = growth_cost(id.upper(), e.upper(), left - 1);
-    let least = if lower_grows(&id, low, high) {
-        low
-    } else {
-        high
-    };
-    let extra = if e.is_leaf() { 1000 } else { 0 };
-    least + 1 + extra
+    low.min(high) + 1 + extra
+}
+
+// Whether the lower branch grows: not under (0,r), under (l,0), and else where it costs less.
+#[tactic(auto, using(crate::proofs::GrowCost::costs))]
+fn lower_grows(id: &IdTree, e: &Tree, left: u8) -> bool
+    requires { (id_depth id.now ≤ left) × (leaf_test (shape id.now) ≡ false) }
+    ensures { result ≡ lowers (is_off (id_lo id.now)) (is_off (id_hi id.now)) (cost (id_lo id.now) (lo e.now)) (cost (id_hi id.now) (hi e.now)) }
+{
+    if id.lower().is_zero() {
+        return false;
+    }
+    if id.upper().is_zero() {
+        return true;
+    }
+    let low = growth_cost(id.lower(), e.lower(), left - 1);
+    let high = growth_cost(id.upper(), e.upper(), left - 1);
+    low < high
 }
 
 // Grows `e` under the id, at the front of `out`. The answer is the size of the
@@ -80,9 +85,7 @@ fn grow_pair(id: IdTree, e: Tree, up: u32, left: u8, out: &mut [Node]) -> (usize
 {
     let base = e.base();
     let at = up + base as u32;
-    let low = growth_cost(id.lower(), e.lower(), left - 1);
-    let high = growth_cost(id.upper(), e.upper(), left - 1);
-    if lower_grows(&id, low, high) {
+    if lower_grows(&id, &e, left) {
         let (n, value) = grow_leaf(id.lower(), e.lower(), at, left - 1, &mut out[1..]);
         let mid = 1 + n;
         let end = mid + e.upper().put(&mut out[mid..]);

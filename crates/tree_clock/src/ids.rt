@@ -1,4 +1,4 @@
-ghost use Rattle.std.specs.Prelude.{◌≡◌, ◌≤◌, length};
+ghost use Rattle.std.specs.Prelude.{◌≡◌, ◌≤◌, false, length, drop};
 ghost use Rattle.tree_rules.specs.Ids.{off, on, is_off, is_on, id_size};
 ghost use Rattle.tree_rules.specs.Shape.{shape};
 ghost use Rattle.tree_clock.specs.Flat.{Stands};
@@ -60,6 +60,14 @@ impl<'a> IdTree<'a> {
         self.tree
     }
 
+    // How many nodes the id has.
+    #[inline]
+    pub(crate) fn size(&self) -> usize
+        ensures { result ≡ id_size self.now }
+    {
+        self.tree.size()
+    }
+
     // Whether the id is 0 or 1.
     #[inline]
     pub(crate) fn is_leaf(&self) -> bool
@@ -104,10 +112,33 @@ impl<'a> IdTree<'a> {
         }
     }
 
+    // The lower side of an id that is known to be neither 0 nor 1: nothing is tested again.
+    #[inline]
+    pub(crate) fn lower_side(&self) -> IdTree<'a>
+        requires { leaf_test (shape self.now) ≡ false }
+        ensures { result ≡ id_lo self.now }
+    {
+        IdTree {
+            tree: self.tree.lower_branch(),
+        }
+    }
+
+    // The upper side of an id that is known to be neither 0 nor 1.
+    #[inline]
+    pub(crate) fn upper_side(&self) -> IdTree<'a>
+        requires { leaf_test (shape self.now) ≡ false }
+        ensures { result ≡ id_hi self.now }
+    {
+        IdTree {
+            tree: self.tree.upper_branch(),
+        }
+    }
+
     // Copies the id to the front of `out` and answers its size.
     pub(crate) fn put(&self, out: &mut [Node]) -> usize
         requires { id_size self.now ≤ length out.old }
         ensures stands { Stands out.new result (shape self.now) }
+        ensures rest { drop result out.new ≡ drop result out.old }
         ensures long { length out.new ≡ length out.old }
     {
         self.tree.put(out)

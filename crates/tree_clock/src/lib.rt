@@ -18,6 +18,7 @@
 mod clocks;
 mod covers;
 mod event;
+mod fault;
 mod fill;
 mod grow;
 mod ids;

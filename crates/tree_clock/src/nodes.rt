@@ -1,4 +1,4 @@
-ghost use Rattle.std.specs.Prelude.{◌≡◌, ℕ, ◌/◌, ◌%◌, ◌<◌, ◌≤◌, true, ◌↔◌, length, replicate};
+ghost use Rattle.std.specs.Prelude.{◌≡◌, ℕ, ◌/◌, ◌%◌, ◌<◌, ◌≤◌, true, ◌↔◌, length, drop, replicate};
 ghost use Rattle.tree_rules.specs.Events.{Event, leaf, node};
 ghost use Rattle.tree_clock.specs.Flat.{filler, Laid, Stands};
 
@@ -53,6 +53,7 @@ pub(crate) const ROOM: usize = 125;
 pub(crate) fn leaf_into(value: u16, out: &mut [Node]) -> usize
     requires { 0 < length out.old }
     ensures stands { Stands out.new result (leaf value) }
+    ensures rest { drop result out.new ≡ drop result out.old }
     ensures long { length out.new ≡ length out.old }
 {
     out[0] = Node {
@@ -67,6 +68,7 @@ pub(crate) fn root_into(base: u16, out: &mut [Node], end: usize) -> usize
     requires { (0 < length out.old) × (end ≤ 65535) }
     ensures stands { (mid : ℕ) (l r : Event) → Laid out.old mid end l r → Stands out.new result (node base l r) }
     ensures size { result ≡ end }
+    ensures rest { 0 < end → drop end out.new ≡ drop end out.old }
     ensures long { length out.new ≡ length out.old }
 {
     out[0] = Node {

@@ -1,4 +1,4 @@
-ghost use Rattle.std.specs.Prelude.{◌≡◌, ◌+◌, ◌≤◌, not, ◌&&◌, length};
+ghost use Rattle.std.specs.Prelude.{◌≡◌, ◌+◌, ◌≤◌, not, ◌&&◌, length, drop};
 ghost use Rattle.tree_rules.specs.Ids.{pair, is_off, id_size, id_depth, NormalId};
 ghost use Rattle.tree_rules.specs.Shape.{shape};
 ghost use Rattle.tree_rules.specs.Split.{half, half_pair, unsplittable};
@@ -26,7 +26,7 @@ pub(crate) fn cannot_split(id: IdTree, left: u8) -> bool
     if id.is_leaf() {
         return left == 0;
     }
-    let (l, r) = (id.lower(), id.upper());
+    let (l, r) = (id.lower_side(), id.upper_side());
     if l.is_zero() {
         return cannot_split(r, left - 1);
     }
@@ -48,6 +48,7 @@ fn neither_zero(l: &IdTree, r: &IdTree) -> bool
 fn pair_into(l: IdTree, r: IdTree, out: &mut [Node]) -> usize
     requires { (id_size (pair l r) ≤ length out.old) × (length out.old ≤ 1000) }
     ensures stands { Stands out.new result (shape (pair l.entry r.entry)) }
+    ensures rest { drop result out.new ≡ drop result out.old }
     ensures long { length out.new ≡ length out.old }
 {
     let mid = 1 + l.put(&mut out[1..]);
@@ -59,6 +60,7 @@ fn pair_into(l: IdTree, r: IdTree, out: &mut [Node]) -> usize
 fn side_into(x: IdTree, y: IdTree, which: Half, out: &mut [Node]) -> usize
     requires { (id_size (half_pair (is_second which) x y) ≤ length out.old) × (length out.old ≤ 1000) }
     ensures stands { Stands out.new result (shape (half_pair (is_second which) x.entry y.entry)) }
+    ensures rest { drop result out.new ≡ drop result out.old }
     ensures long { length out.new ≡ length out.old }
 {
     match which {
@@ -72,6 +74,7 @@ fn side_into(x: IdTree, y: IdTree, which: Half, out: &mut [Node]) -> usize
 pub(crate) fn half_into(id: IdTree, which: Half, out: &mut [Node]) -> usize
     requires { (id_size (half (is_second which) id) ≤ length out.old) × (length out.old ≤ 1000) }
     ensures stands { Stands out.new result (shape (half (is_second which) id.entry)) }
+    ensures rest { drop result out.new ≡ drop result out.old }
     ensures long { length out.new ≡ length out.old }
 {
     if id.is_zero() {
@@ -80,7 +83,7 @@ pub(crate) fn half_into(id: IdTree, which: Half, out: &mut [Node]) -> usize
     if id.is_leaf() {
         return side_into(IdTree::one(), IdTree::one(), which, out);
     }
-    let (l, r) = (id.lower(), id.upper());
+    let (l, r) = (id.lower_side(), id.upper_side());
     if neither_zero(&l, &r) {
         return side_into(l, r, which, out);
     }

@@ -1,6 +1,6 @@
-ghost use Rattle.std.specs.Prelude.{◌≡◌, ◌≤◌};
-ghost use Rattle.tree_rules.specs.Events.{size as size_of};
-ghost use Rattle.tree_clock.specs.Flat.{stored};
+ghost use Rattle.std.specs.Prelude.{◌≡◌, ◌≤◌, replicate};
+ghost use Rattle.tree_rules.specs.Events.{Event, size as size_of};
+ghost use Rattle.tree_clock.specs.Flat.{filler, stored, Stands};
 ghost use Rattle.tree_clock.specs.Trees.{held};
 
 use crate::nodes::{MOST_NODES, Node, fillers};
@@ -14,6 +14,13 @@ pub(crate) struct Stored {
 }
 
 impl Stored {
+    // Only fillers, for a tree that is written in its place.
+    pub(crate) fn fillers() -> Stored
+        ensures { result.nodes ≡ replicate 63 filler }
+    {
+        Stored { nodes: fillers() }
+    }
+
     // A tree of at most 63 nodes, stored.
     pub(crate) fn of(tree: &Tree) -> Stored
         requires { size_of tree.now ≤ 63 }
@@ -22,6 +29,14 @@ impl Stored {
         let mut nodes: [Node; 63] = fillers();
         tree.put(&mut nodes);
         Stored { nodes }
+    }
+
+    // Puts fillers behind a tree of `n` nodes that was written at the front.
+    pub(crate) fn trim(&mut self, n: usize)
+        requires { (e : Event) × Stands self.old.nodes n e }
+        ensures { (e : Event) → Stands self.old.nodes n e → self.new.nodes ≡ stored e }
+    {
+        self.nodes[n..].fill(Node { base: 0, size: 0 });
     }
 
     // The tree that is stored.

@@ -1,4 +1,4 @@
-ghost use Rattle.std.specs.Prelude.{◌≡◌, ◌≤◌, length, drop};
+ghost use Rattle.std.specs.Prelude.{◌≡◌, ◌≤◌, false, length, drop};
 ghost use Rattle.std.proofs.Common.{rules};
 ghost use Rattle.std.specs.Cmp.Rules.{comparing};
 ghost use Rattle.tree_rules.specs.Events.{Event, leaf, base as base_of, lo, hi, size as size_of};
@@ -72,6 +72,14 @@ impl<'a> Tree<'a> {
         }
     }
 
+    // How many nodes the tree has.
+    #[inline]
+    pub(crate) fn size(&self) -> usize
+        ensures { result ≡ size_of self.now }
+    {
+        self.nodes.len()
+    }
+
     // The base of the root.
     #[inline]
     pub(crate) fn base(&self) -> u16
@@ -95,9 +103,7 @@ impl<'a> Tree<'a> {
         if self.is_leaf() {
             return Tree::zero();
         }
-        Tree {
-            nodes: &self.nodes[1..1 + self.nodes[1].size as usize],
-        }
+        self.lower_branch()
     }
 
     // The upper branch; that of a leaf is 0.
@@ -108,6 +114,26 @@ impl<'a> Tree<'a> {
         if self.is_leaf() {
             return Tree::zero();
         }
+        self.upper_branch()
+    }
+
+    // The lower branch of a tree that is known to be no leaf: nothing is tested again.
+    #[inline]
+    pub(crate) fn lower_branch(&self) -> Tree<'a>
+        requires { leaf_test self.now ≡ false }
+        ensures { result ≡ lo self.now }
+    {
+        Tree {
+            nodes: &self.nodes[1..1 + self.nodes[1].size as usize],
+        }
+    }
+
+    // The upper branch of a tree that is known to be no leaf.
+    #[inline]
+    pub(crate) fn upper_branch(&self) -> Tree<'a>
+        requires { leaf_test self.now ≡ false }
+        ensures { result ≡ hi self.now }
+    {
         Tree {
             nodes: &self.nodes[1 + self.nodes[1].size as usize..],
         }
@@ -121,6 +147,11 @@ impl<'a> Tree<'a> {
         ensures long { length out.new ≡ length out.old }
     {
         let nodes = self.nodes;
+        // a single node by hand: a call of memcpy costs more
+        if nodes.len() == 1 {
+            out[0] = nodes[0];
+            return 1;
+        }
         out[0..nodes.len()].copy_from_slice(nodes);
         nodes.len()
     }

@@ -81,10 +81,18 @@ impl MadeClock {
         Ok(MadeClock { clock })
     }
 
-    // The empty clock after a number of events at the end of a path.
-    pub fn after(count: u32, path: &str) -> Result<MadeClock, Fault> {
-        let pen = MadePen::at(path)?;
+    // The empty clock after some events: so many at the end of each path.
+    pub fn after(events: &[(u32, &str)]) -> Result<MadeClock, Fault> {
         let mut clock = MadeClock::blank();
+        for (count, path) in events {
+            clock = clock.later(*count, path)?;
+        }
+        Ok(clock)
+    }
+
+    fn later(&self, count: u32, path: &str) -> Result<MadeClock, Fault> {
+        let pen = MadePen::at(path)?;
+        let mut clock = *self;
         for _ in 0..count {
             clock = clock.event(&pen)?;
         }

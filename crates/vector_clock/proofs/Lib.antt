@@ -1,2 +1,3 @@
 pub mod FromFn
+pub mod Listing
 pub mod Searched

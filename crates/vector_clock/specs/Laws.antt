@@ -23,10 +23,6 @@ due_cause : (t : Bool) (x c : Cause) → due t x ≡ Some c → (t ≡ true) × 
 due_cause true x c e = (refl, cc)
 due_cause false x c e = let z : ◌≡◌ {A = ℕ} 0 1 = cc in absurd (omega arith)
 
-not_due : (t : Bool) (x : Cause) → due t x ≡ None → t ≡ false
-not_due true x e = let z : ◌≡◌ {A = ℕ} 0 1 = cc in absurd (omega arith)
-not_due false x e = refl
-
 first_cause : (s t : Bool) (x y c : Cause) → first (due s x ∷ due t y ∷ []) ≡ Some c → (c ≡ x) ⊎ (c ≡ y)
 first_cause true t x y c e = inl (cc)
 first_cause false true x y c e = inr (cc)

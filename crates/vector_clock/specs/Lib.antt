@@ -7,3 +7,4 @@ pub mod Numbers
 pub mod Filled
 pub mod Indexed
 pub mod Raised
+pub mod Texts

@@ -32,19 +32,6 @@ rises t i (suc n) h = ⊎_elim (λ (e : i ≡ suc n). rw e (omega arith)) (λ (n
 pub passed : (t : ℕ → Bool) (k n : ℕ) → k < n → t k ≡ true → how_many t k < how_many t n
 passed t k n h e = omega (arith, rises t (k + 1) n (omega arith), more_yes t k e)
 
-pub none_more_yes : (t : ℕ → Bool) (i : ℕ) → t i ≡ true → none t (i + 1) ≡ false
-none_more_yes t i h = ne_eqb (how_many t (i + 1)) 0 (λ z. omega (arith, more_yes t i h))
-
-pub none_more_no : (t : ℕ → Bool) (i : ℕ) → t i ≡ false → none t (i + 1) ≡ none t i
-none_more_no t i h = ap (λ m. nat_eq m 0) (more_no t i h)
-
--- a flag that is lowered at the first index that passes
-pub flag_lowered : (t : ℕ → Bool) (i : ℕ) (r : Bool) → t i ≡ true → r ≡ false → r ≡ none t (i + 1)
-flag_lowered t i r h e = e ∙ sym (none_more_yes t i h)
-
-pub flag_kept : (t : ℕ → Bool) (i : ℕ) (r s : Bool) → t i ≡ false → r ≡ s → s ≡ none t i → r ≡ none t (i + 1)
-flag_kept t i r s h e f = e ∙ f ∙ sym (none_more_no t i h)
-
 pub some_passes : (t : ℕ → Bool) (k n : ℕ) → k < n → t k ≡ true → none t n ≡ false
 some_passes t k n h e = ne_eqb (how_many t n) 0 (λ z. omega (arith, passed t k n h e))
 

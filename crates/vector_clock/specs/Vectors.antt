@@ -2,6 +2,9 @@
 --
 -- The marks of a name are its steps 0, 1, 2, ..: a pen may make every mark of its names,
 -- a clock knows the marks below each name's count.
+--
+-- vectors      the kind, for any number of names
+-- vector_kind  the kind as it is used: with 16 names
 use Rattle.std.specs.Prelude.{ℕ, length, None, ◌==◌, nat_lt}
 use Rattle.clock.specs.Meaning.{Meaning}
 use Rattle.vector_clock.specs.declared.pens.Names.{Names}
@@ -28,3 +31,6 @@ vectors {n} = record {
   unite_due = unite_due;
   united = both_names;
 }
+
+abbrev pub vector_kind : Meaning (Names 16) (Counts 16)
+vector_kind = vectors

@@ -1,8 +1,10 @@
-ghost use Rattle.std.specs.Prelude.{◌≡◌};
+ghost use Rattle.std.specs.Prelude.{◌≡◌, Some};
 ghost use Rattle.clock.specs.Answers.{answered};
 ghost use Rattle.clock.specs.Verdicts.{verdict_of};
 ghost use Rattle.vector_clock.specs.Clocks.{count_of, no_counts, event_due, raised, larger_at, larger_counts, covered};
+ghost use Rattle.vector_clock.specs.Texts.{counts_text};
 
+use crate::items::write_item;
 use crate::pens::Names;
 use clock::{Cause, Fault, Verdict};
 use std::{array, fmt};
@@ -92,52 +94,13 @@ impl<const N: usize> Counts<N> {
 
 /// `[1,0,2]`, every count written out
 impl<const N: usize> fmt::Display for Counts<N> {
+    ghost output = { λ clock. Some (counts_text clock) };
+
     fn fmt<W: fmt::Write>(&self, f: &mut fmt::Formatter<W>) -> fmt::Result {
         f.write_str("[")?;
         for (name, count) in self.counts.iter().enumerate() {
-            if name > 0 {
-                f.write_str(",")?;
-            }
-            write!(f, "{count}")?;
+            write_item(f, name > 0, usize::from(*count))?;
         }
         f.write_str("]")
-    }
-}
-
-#[cfg(test)]
-mod tests {
-    use super::*;
-    use crate::refusal;
-    use std::test::Fail;
-
-    // Counts rise at the lowest name, then at the next, and stop at the limit.
-    #[test]
-    fn counts_to_the_limit(rt: HostRuntime) -> Result<(), Fail> {
-        let pen = Names::<2>::all();
-        let mut clock = Counts {
-            counts: [65534, 65534],
-        };
-        for name in [0, 1] {
-            assert!(rt; clock.count(name) == 65534);
-            clock = clock.event(&pen)?;
-            assert!(rt; clock.count(name) == 65535);
-        }
-        assert!(rt; refusal(clock.event(&pen)) == Some(16));
-        assert!(rt; refusal(clock.event(&Names::none())) == Some(14));
-        Ok(())
-    }
-
-    // Each verdict, and the join of two clocks in conflict.
-    #[test]
-    fn compares(rt: HostRuntime) -> Result<(), Fail> {
-        let old = Counts { counts: [1, 0, 2] };
-        let new = Counts { counts: [1, 1, 2] };
-        let other = Counts { counts: [2, 0, 2] };
-        assert!(rt; u8::from(new.compare(&new)) == 0 && u8::from(old.compare(&new)) == 1);
-        assert!(rt; u8::from(new.compare(&old)) == 2 && u8::from(new.compare(&other)) == 3);
-        let both = new.join(&other);
-        assert!(rt; both.covers(&new) && both.covers(&other) && !new.covers(&both));
-        assert_eq!(rt; format!(in rt.alloc(); "{both}")?.as_str(), "[2,1,2]");
-        Ok(())
     }
 }

@@ -1,4 +1,4 @@
-ghost use Rattle.vector_clock.specs.Vectors.{vectors};
+ghost use Rattle.vector_clock.specs.Vectors.{vector_kind};
 ghost use Rattle.std.proofs.Common.{lit≤};
 ghost use Rattle.vector_clock.specs.Laws.{vectors_sound};
 
@@ -18,7 +18,7 @@ pub type VectorClock = Counts<NAMES>;
 impl Clock for VectorClock {
     type Pen = VectorPen;
 
-    ghost meaning = { vectors };
+    ghost meaning = { vector_kind };
 
     ghost sound = { vectors_sound (lit≤ tt) };
 

@@ -14,6 +14,7 @@
 #![tactic(auto)]
 
 mod clocks;
+mod items;
 mod kind;
 mod pens;
 
@@ -21,10 +22,3 @@ use clock::Clock;
 pub use clocks::Counts;
 pub use kind::{NAMES, VectorClock, VectorPen};
 pub use pens::Names;
-
-// The number with which a call is refused, as the tests name it. Its twin of the
-// tree's tests stands in another crate, and the two share no crate of tests.
-#[cfg(test)]
-fn refusal<T: Drop>(answer: Result<T, clock::Fault>) -> Option<u8> {
-    answer.err().map(|fault| u8::from(fault.cause))
-}

@@ -1,7 +1,9 @@
-ghost use Rattle.std.specs.Prelude.{◌≡◌, ◌+◌, ◌/◌};
+ghost use Rattle.std.specs.Prelude.{◌≡◌, ◌+◌, ◌/◌, Some};
 ghost use Rattle.clock.specs.Answers.{answered};
 ghost use Rattle.vector_clock.specs.Pens.{in_pen, size_of, all_names, no_names, fork_due, lower_half, upper_half, unite_due, in_either, both_names};
+ghost use Rattle.vector_clock.specs.Texts.{names_text};
 
+use crate::items::write_item;
 use clock::{Cause, Fault};
 use std::{array, fmt};
 
@@ -97,48 +99,17 @@ impl<const N: usize> Names<N> {
 
 /// `{0,1,2}`
 impl<const N: usize> fmt::Display for Names<N> {
+    ghost output = { λ pen. Some (names_text pen) };
+
     fn fmt<W: fmt::Write>(&self, f: &mut fmt::Formatter<W>) -> fmt::Result {
         f.write_str("{")?;
-        let names = self.held.iter().enumerate().filter(|(_, held)| **held);
-        for (i, (name, _)) in names.enumerate() {
-            if i > 0 {
-                f.write_str(",")?;
+        let mut after = false;
+        for (name, held) in self.held.iter().enumerate() {
+            if *held {
+                write_item(f, after, name)?;
+                after = true;
             }
-            write!(f, "{name}")?;
         }
         f.write_str("}")
-    }
-}
-
-#[cfg(test)]
-mod tests {
-    use super::*;
-    use crate::refusal;
-    use std::test::Fail;
-
-    // All names are forked down to one, and united again.
-    #[test]
-    fn forks_and_unites(rt: HostRuntime) -> Result<(), Fail> {
-        let mut pen = Names::<16>::all();
-        let mut rest = Names::<16>::none();
-        for size in [8, 4, 2, 1] {
-            let (lower, upper) = pen.fork()?;
-            assert!(rt; lower.size() == size && upper.size() == size && upper.has(size));
-            pen = lower;
-            rest = rest.unite(&upper)?;
-        }
-        assert!(rt; pen.size() == 1 && pen.has(0) && refusal(pen.fork()) == Some(11));
-        assert!(rt; rest.size() == 15 && refusal(rest.unite(&rest)) == Some(12));
-        assert!(rt; rest.unite(&pen).is_ok());
-        Ok(())
-    }
-
-    // An odd name goes to the lower half.
-    #[test]
-    fn writes_names(rt: HostRuntime) -> Result<(), Fail> {
-        let (lower, upper) = Names::<5>::all().fork()?;
-        let text = format!(in rt.alloc(); "{lower} {upper}")?;
-        assert_eq!(rt; text.as_str(), "{0,1,2} {3,4}");
-        Ok(())
     }
 }

@@ -22,4 +22,4 @@ invariant_of-result g c =
     let e : l ≡ open_result m bs.items cs.items c.args.payloads.now = search rules in
     let berths : length c.open.new.berths ≡ bs.len = search rules in
     let copies : length c.open.new.copies ≡ cs.len = search rules in
-    record { replayed = opened_led m c.args.payloads.now g.P.Payload.same bs cs c.in_ok-card.card l c.in_ok-card.was e berths copies }
+    opened_led m c.args.payloads.now g.P.Payload.same bs cs c.in_ok-card.card l c.in_ok-card.was e berths copies

@@ -1,7 +1,9 @@
-use Rattle.std.proofs.Common.{[], refl}
+use Rattle.std.proofs.Common.{[], refl, subst, IfOk}
 use Rattle.history.specs.Checks.{left}
 use Rattle.history.specs.Calls.{judge}
 use Rattle.history.specs.Law.{LawfulCall}
+use Rattle.season.specs.Held.{Held}
+use Rattle.season.specs.Replays.{Behind}
 use Rattle.season.proofs.Verdicts.{moved, judged_behind}
 use Rattle.season.proofs.seasons.Season.judge.Goals as goal
 
@@ -9,7 +11,7 @@ pub returns-clause-edits : goal.returns-clause-edits
 returns-clause-edits g c =
     let m = g.C.Clock.meaning in
     let same = g.P.Payload.same in
-    let s = c.args.self.now in
+    let s = c.self.inside in
     let card = g.K.Card.sizes s.card in
     let law = moved (λ bs cs. LawfulCall m same (judge card c.args.a c.args.b c.args.f) bs cs (left c.judge.result bs cs [])) c.deref.ensures.value c.deref-2.ensures.value (c.judge.ensures.history same) in
-    judged_behind m same s.berths.items s.copies.items card c.args.a c.args.b s.replayed c.args.f c.judge.result (left c.judge.result s.berths.items s.copies.items []) refl law
+    subst (λ (h : Held _ _ _). IfOk c.judge.result (λ v. ∥ Behind m same h c.args.a c.args.b c.args.f v ∥₁)) c.self.view_is (judged_behind m same s.berths.items s.copies.items card c.args.a c.args.b c.self.invariant c.args.f c.judge.result (left c.judge.result s.berths.items s.copies.items []) refl law)

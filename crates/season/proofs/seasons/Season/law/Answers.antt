@@ -1,5 +1,11 @@
+use Rattle.std.proofs.Common.{subst}
+use Rattle.history.specs.Tables.{Made}
+use Rattle.season.specs.Held.{Held}
 use Rattle.season.proofs.Calls.{well_made}
 use Rattle.season.proofs.seasons.Season.law.Goals as goal
 
 pub returns : goal.returns
-returns g c = record { made = well_made g.C.Clock.meaning g.P.Payload.same c.args.self.now.berths.items c.args.self.now.copies.items c.history_law.ensures c.args.self.now.replayed }
+returns g c =
+    let m = g.C.Clock.meaning in
+    let s = c.self.inside in
+    record { made = subst (λ (h : Held _ _ _). Made m h.berths h.copies) c.self.view_is (well_made m g.P.Payload.same s.berths.items s.copies.items c.history_law.ensures c.self.invariant) }

@@ -8,9 +8,9 @@ pub invariant_of-self : goal.invariant_of-self
 invariant_of-self g c =
     let m = g.C.Clock.meaning in
     let same = g.P.Payload.same in
-    let s = c.args.self.now in
+    let s = c.self.inside in
     let call = drop s.card c.args.a in
     let l = left c.drop.result c.drop.new.berths s.copies.items [] in
     let e : l ≡ leaves m same call s.berths.items s.copies.items = search rules in
     let berths : length c.drop.new.berths ≡ s.berths.len = search rules in
-    record { replayed = berths_led m same s.berths s.copies call l e s.replayed refl berths }
+    berths_led m same s.berths s.copies call l e c.self.invariant refl berths

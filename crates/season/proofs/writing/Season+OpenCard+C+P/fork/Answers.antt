@@ -8,10 +8,10 @@ pub invariant_of-self : goal.invariant_of-self
 invariant_of-self g c =
     let m = g.C.Clock.meaning in
     let same = g.P.Payload.same in
-    let s = c.args.self.now in
+    let s = c.self.inside in
     let call = fork s.card c.args.a c.args.b in
     let l = left c.fork.result c.fork.new.berths c.fork.new.copies [] in
     let e : l ≡ leaves m same call s.berths.items s.copies.items = search rules in
     let berths : length c.fork.new.berths ≡ s.berths.len = search rules in
     let copies : length c.fork.new.copies ≡ s.copies.len = search rules in
-    record { replayed = both_led m same s.berths s.copies call l e s.replayed berths copies }
+    both_led m same s.berths s.copies call l e c.self.invariant berths copies

@@ -1,7 +1,9 @@
-use Rattle.std.proofs.Common.{rules, ◌≡◌, length, refl}
+use Rattle.std.proofs.Common.{rules, ◌≡◌, length, refl, subst, OnOk}
 use Rattle.history.specs.Checks.{left}
 use Rattle.history.specs.Calls.{pull, leaves}
 use Rattle.history.specs.Law.{LawfulCall}
+use Rattle.season.specs.Held.{Held}
+use Rattle.season.specs.Replays.{EachBehind}
 use Rattle.season.proofs.Calls.{copies_led}
 use Rattle.season.proofs.Verdicts.{moved, pulled_behind}
 use Rattle.season.proofs.writing.Season+OpenCard+C+P.pull.Goals as goal
@@ -10,18 +12,18 @@ pub invariant_of-self : goal.invariant_of-self
 invariant_of-self g c =
     let m = g.C.Clock.meaning in
     let same = g.P.Payload.same in
-    let s = c.args.self.now in
+    let s = c.self.inside in
     let call = pull s.card c.args.a c.args.b c.args.bytes.now in
     let l = left c.pull.result s.berths.items c.pull.new.copies c.pull.new.bytes in
     let e : l ≡ leaves m same call s.berths.items s.copies.items = search rules in
     let copies : length c.pull.new.copies ≡ s.copies.len = search rules in
-    record { replayed = copies_led m same s.berths s.copies call l e s.replayed refl copies }
+    copies_led m same s.berths s.copies call l e c.self.invariant refl copies
 
 pub returns-clause-edits : goal.returns-clause-edits
 returns-clause-edits g c =
     let m = g.C.Clock.meaning in
     let same = g.P.Payload.same in
-    let s = c.args.self.now in
+    let s = c.self.inside in
     let bytes = c.args.bytes.now in
     let law = moved (λ bs cs. LawfulCall m same (pull s.card c.args.a c.args.b bytes) bs cs (left c.pull.result bs c.pull.new.copies c.pull.new.bytes)) c.deref.ensures.value c.deref_mut.ensures.value (c.pull.ensures.history same) in
-    pulled_behind m same s.berths.items s.copies.items s.card c.args.a c.args.b s.replayed bytes c.pull.result (left c.pull.result s.berths.items c.pull.new.copies c.pull.new.bytes) refl law
+    subst (λ (h : Held _ _ _). OnOk c.pull.result ∥ EachBehind m same h c.args.b c.args.a c.pull.new.bytes ∥₁) c.self.view_is (pulled_behind m same s.berths.items s.copies.items s.card c.args.a c.args.b c.self.invariant bytes c.pull.result (left c.pull.result s.berths.items c.pull.new.copies c.pull.new.bytes) refl law)

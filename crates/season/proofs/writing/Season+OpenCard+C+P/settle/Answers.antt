@@ -8,9 +8,9 @@ pub invariant_of-self : goal.invariant_of-self
 invariant_of-self g c =
     let m = g.C.Clock.meaning in
     let same = g.P.Payload.same in
-    let s = c.args.self.now in
+    let s = c.self.inside in
     let call = settle s.card c.args.a c.args.b c.args.f c.args.payload in
     let l = left c.settle.result s.berths.items c.settle.new.copies [] in
     let e : l ≡ leaves m same call s.berths.items s.copies.items = search rules in
     let copies : length c.settle.new.copies ≡ s.copies.len = search rules in
-    record { replayed = copies_led m same s.berths s.copies call l e s.replayed refl copies }
+    copies_led m same s.berths s.copies call l e c.self.invariant refl copies

@@ -1,28 +1,11 @@
-use Rattle.std.proofs.Common.{Ok, sym, ap, ◌∙◌, ap₂}
+use Rattle.std.proofs.Common.{sym, ap, ◌∙◌}
 use Rattle.clock.specs.Answers.{answered}
 use Rattle.clock.proofs.Answering.{event-has}
-use Rattle.tree_rules.specs.Fill.{fill}
-use Rattle.tree_rules.specs.Grow.{grow}
-use Rattle.tree_rules.specs.Ids.{is_off}
-use Rattle.tree_rules.proofs.Norms.{clash}
-use Rattle.tree_clock.specs.Growth.{past_limits}
-use Rattle.tree_clock.specs.Stored.{clock_of, tree_kind}
+use Rattle.tree_clock.specs.Stored.{tree_kind}
 use Rattle.tree_clock.specs.StoredSound.{tree_kind_sound}
-use Rattle.tree_clock.proofs.Public.{event_grows, event_fills}
-use Rattle.tree_clock.proofs.Viewing.{one_event}
 use Rattle.tree_clock.proofs.clocks.TreeClock.event.Goals as goal
 
-pub returns-then-eq : goal.returns-then-eq
-returns-then-eq c =
-    let z = c.if-is_zero.ensures ∙ ap is_off c.id.ensures.id in
-    let f = c.front-filled.ensures _ c.fill_into-n.ensures.stands ∙ ap₂ fill c.id-2.ensures.id c.tree.ensures.tree in
-    let g = c.grown.ensures ∙ ap₂ (λ i e. answered (past_limits (grow i e)) (clock_of (grow i e))) c.id-then-eq.ensures.id c.tree-then-eq.ensures.tree in
-    let e = g ∙ event_grows c.args.pen.now c.args.self.now z (sym f ∙ (one_event _ _ _ c.eq.ensures).0 c.if-eq.true ∙ c.tree-2.ensures.tree) in
-    record { result = e; marks = event-has tree_kind tree_kind_sound _ _ c.requires.made.1 c.requires.made.0 _ e }
-
-pub returns : goal.returns
-returns c =
-    let z = c.if-is_zero.ensures ∙ ap is_off c.id.ensures.id in
-    let f = c.front-filled.ensures _ c.fill_into-n.ensures.stands ∙ ap₂ fill c.id-2.ensures.id c.tree.ensures.tree in
-    let e = ap Ok (c.of.ensures ∙ ap clock_of f) ∙ event_fills c.args.pen.now c.args.self.now z c.requires.made.0 (λ q. clash (sym c.if-eq.false ∙ (one_event _ _ _ c.eq.ensures).1 (f ∙ q ∙ sym c.tree-2.ensures.tree))) in
+pub returns-in-None : goal.returns-in-None
+returns-in-None c =
+    let e = ap (λ r. answered r c.event_into.new.made) (sym c.in-None.is) ∙ c.event_into.ensures in
     record { result = e; marks = event-has tree_kind tree_kind_sound _ _ c.requires.made.1 c.requires.made.0 _ e }

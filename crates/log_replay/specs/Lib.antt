@@ -1,0 +1,6 @@
+pub mod Errors
+pub mod Lines
+pub mod Openings
+pub mod Kinds
+pub mod Words
+pub mod Replays

@@ -1,6 +1,0 @@
--- Each call goes down to a half of the interval.
-use Rattle.std.proofs.Common.{length}
-use Rattle.season_model.proofs.heights.+write_tree.Given as goal
-
-abbrev pub decreases-write_tree : goal.decreases-write_tree
-decreases-write_tree l = length l.values.now
