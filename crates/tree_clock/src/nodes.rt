@@ -30,6 +30,10 @@ pub(crate) fn same_nodes(mine: &[Node], theirs: &[Node]) -> bool
     if mine.len() != theirs.len() {
         return false;
     }
+    // two clocks that differ mostly do so at the root
+    if mine.len() > 0 && mine[0].base != theirs[0].base {
+        return false;
+    }
     let mut same = true;
     for i in 0..mine.len() {
         same &= mine[i].word() == theirs[i].word();

@@ -4,12 +4,13 @@
 -- clock_by n f                      the clock that counts f k for each name k below n
 -- no_counts n                       the clock that counts 0 for each name
 -- open_name p c k                   name k is in the pen p, and its count is below the limit
+-- more_at c i k                     the count of name k, one more where it is name i
 -- raised p c, raised_at p c k       one more at the lowest open name, and its count of name k
 -- larger_counts c d, larger_at      the larger count of each name, and of name k
 -- behind_at c d k                   the count of name k is larger in d than in c
 -- covered c d                       no count is larger in d than in c
 -- event_due                         the cause with which event is refused, if any
-use Rattle.std.specs.Prelude.{ℕ, ◌+◌, max, Bool, cond, ◌&&◌, [], ◌∷◌, replicate, Option, nat_lt, slice_index}
+use Rattle.std.specs.Prelude.{ℕ, ◌+◌, max, Bool, cond, ◌&&◌, [], ◌∷◌, replicate, Option, nat_lt, ◌==◌, slice_index}
 use Rattle.clock.specs.declared.causes.Cause.{Cause}
 use Rattle.clock.specs.declared.causes.Cause.TheVariants.{PenSpent, AtLimit}
 use Rattle.clock.specs.Answers.{due, first}
@@ -29,6 +30,9 @@ no_counts n = record { counts = replicate n 0 }
 
 abbrev pub open_name : {n : ℕ} → Names n → Counts n → ℕ → Bool
 open_name p c k = in_pen p k && nat_lt (count_of c k) 65535
+
+abbrev pub more_at : {n : ℕ} → Counts n → ℕ → ℕ → ℕ
+more_at c i k = count_of c k + cond (k == i) 1 0
 
 abbrev pub raised_at : {n : ℕ} → Names n → Counts n → ℕ → ℕ
 raised_at p c k = cond (lowest (open_name p c) k) (count_of c k + 1) (count_of c k)

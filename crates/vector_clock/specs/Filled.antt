@@ -1,11 +1,10 @@
 -- Lists by a rule for each index, and the loop that fills one.
 --
 -- Filled d f n i xs    xs has n elements, and f k at each index k below i
-use Rattle.std.specs.Prelude.{◌≡◌, ℕ, ◌+◌, ◌<◌, ◌≤◌, false, List, length, replicate, nat_lt, slice_index_or, slice_set}
-use Rattle.std.proofs.Common.{sym, ◌∙◌, arith, below_more}
-use Rattle.std.proofs.lemmas.List.{get_or_past, length-set, length-replicate, get_or-set_same, get_or-set_other}
+use Rattle.std.specs.Prelude.{◌≡◌, ℕ, ◌<◌, ◌≤◌, List, length, slice_index_or}
+use Rattle.std.proofs.Common.{arith}
+use Rattle.std.proofs.lemmas.List.{get_or_past}
 use Rattle.std.proofs.lemmas.List.FromFn.{get_or-map-range_with_len, length-map-range_with_len, fill_by_all}
-use Rattle.std.proofs.lemmas.Bool.{ltb-false}
 use Rattle.vector_clock.specs.Counting.{listed}
 
 pub length_listed : {X : Type 0} (n : ℕ) (f : ℕ → X) → length (listed n f) ≡ n

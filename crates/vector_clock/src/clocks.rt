@@ -1,7 +1,10 @@
-ghost use Rattle.std.specs.Prelude.{◌≡◌, Some};
-ghost use Rattle.clock.specs.Answers.{answered};
+ghost use Rattle.std.specs.Prelude.{◌≡◌, ℕ, ◌<◌, ◌≤◌, cond, true, false, Some};
+ghost use Rattle.clock.specs.declared.causes.Cause.TheVariants.{PenSpent, AtLimit};
+ghost use Rattle.clock.specs.Answers.{answered, fault_of};
 ghost use Rattle.clock.specs.Verdicts.{verdict_of};
-ghost use Rattle.vector_clock.specs.Clocks.{count_of, no_counts, event_due, raised, larger_at, larger_counts, covered};
+ghost use Rattle.vector_clock.specs.Clocks.{count_of, clock_by, no_counts, open_name, event_due, more_at, raised, larger_at, larger_counts, covered};
+ghost use Rattle.vector_clock.specs.Counting.{none};
+ghost use Rattle.vector_clock.specs.Pens.{in_pen};
 ghost use Rattle.vector_clock.specs.Texts.{counts_text};
 
 use crate::items::write_item;
@@ -43,20 +46,43 @@ impl<const N: usize> Counts<N> {
     pub fn event(&self, pen: &Names<N>) -> Result<Counts<N>, Fault>
         ensures { result ≡ answered (event_due pen.now self.now) (raised pen.now self.now) }
     {
-        let open = pen
-            .held
-            .iter()
-            .zip(&self.counts)
-            .position(|(held, count)| *held && *count < LIMIT);
-        match open {
-            Some(name) => {
-                let mut counts = self.counts;
-                counts[name] += 1;
-                Ok(Counts { counts })
-            }
-            None if pen.size() == 0 => Err(Cause::PenSpent.into()),
-            None => Err(Cause::AtLimit.into()),
+        let name = self.lowest_open(pen);
+        if name < N {
+            return Ok(self.raised(name));
         }
+        Err(refusal(pen))
+    }
+
+    // The lowest name of the pen whose count is below the limit, N where there is none. From the last name to the
+    // first, with one test for each and no end before: so a name takes no jump, where which name it is would be guessed.
+    #[inline(always)]
+    fn lowest_open(&self, pen: &Names<N>) -> usize
+        ensures lower { (k : ℕ) → k < result → open_name pen.now self.now k ≡ false }
+        ensures open { result < N → open_name pen.now self.now result ≡ true }
+        ensures last { result ≤ N }
+    {
+        let mut lowest = N;
+        for name in (0..N).rev() {
+            let limit = if pen.held[name] { LIMIT } else { 0 };
+            if self.counts[name] < limit {
+                lowest = name;
+            }
+        }
+        lowest
+    }
+
+    // One more at a name. Each count is written, most as it was: so all are written at once, where one alone would be
+    // written into the others and be waited for when they are read together.
+    #[inline(always)]
+    fn raised(&self, name: usize) -> Counts<N>
+        requires { count_of self.now name < 65535 }
+        ensures { result ≡ clock_by N (more_at self.now name) }
+    {
+        let mut counts = [0; N];
+        for at in 0..N {
+            counts[at] = self.counts[at] + u16::from(at == name);
+        }
+        Counts { counts }
     }
 
     /// The larger count of each name.
@@ -103,4 +129,17 @@ impl<const N: usize> fmt::Display for Counts<N> {
         }
         f.write_str("]")
     }
+}
+
+// Why the pen can make no mark, where none of its names is open. Not inlined, so that a fault is not written one field
+// at a time beside a clock.
+#[cold]
+#[inline(never)]
+fn refusal<const N: usize>(pen: &Names<N>) -> Fault
+    ensures { result ≡ fault_of (cond (none (in_pen pen.now) N) PenSpent AtLimit) }
+{
+    if pen.size() == 0 {
+        return Cause::PenSpent.into();
+    }
+    Cause::AtLimit.into()
 }
