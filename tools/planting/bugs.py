@@ -75,7 +75,7 @@ def run(crate, *words):
     """What rt says in a crate of the copy: its status, its output, and that with its errors."""
     pipe = {"stdout": subprocess.PIPE, "stderr": subprocess.PIPE, "text": True, "errors": "replace"}
     at = os.path.join(copy, "crates", crate)
-    it = subprocess.Popen(["timeout", "600", "rt", *words], cwd=at, start_new_session=True, **pipe)
+    it = subprocess.Popen(["timeout", "1800", "rt", *words], cwd=at, start_new_session=True, **pipe)
     try:
         said, told = it.communicate()
         return it.returncode, said, said + told
