@@ -93,7 +93,7 @@ def check(crate, only="", log=""):
     unread = next((line for line in lines if re.match(r"(\./)?(src|specs)/\S+:\d+:\d+: error", line)), "")
     if unread:
         return "bad", unread
-    told = [line for line in lines if PLACED.match(line) and (": error" in line or line.startswith("note: "))]
-    if told and all(LOST.match(line) for line in told):
+    told = [line for line in lines if PLACED.match(line) and ": error" in line]
+    if told and LOST.match(told[0]):
         return "names", told[0]
     return "refused", promise(crate, out)
