@@ -14,7 +14,7 @@ use Rattle.history.specs.Law.{Points, LawOf, LawfulCall, LawfulOpen}
 use Rattle.history.proofs.Lookups.{none_is_not}
 use Rattle.history.proofs.Good.{GoodYard, opened_good, reached_good, leaves_good}
 use Rattle.history.proofs.Holding.{compared, equal_holds}
-use Rattle.history.proofs.Lawful.{lawful}
+use Rattle.history.proofs.Lawful.{verdict_at, lawful}
 
 nth_below : {A : Type 0} (xs : List A) (i : ℕ) (x : A) → slice_get xs i ≡ Some x → i < length xs
 nth_below xs i x e = ⊎_elim (λ lt. lt) (λ ge. absurd (none_is_not x (sym (slice_get_past xs i ge) ∙ e))) (cases_lt i (length xs))
@@ -23,7 +23,10 @@ module _ {Pen C P : Type 0} (m : Meaning Pen C) (sound : Sound m) (alike : P →
   points : (y : Yard Pen C P) → GoodYard m sound payloads y → Points m alike payloads y
   points y g = record {
     made = g.made;
+    stand = g.inv.present;
     verdicts = λ a b f sa sb lt. compared m sound F (slice_get payloads) y.berths y.copies y.history g a b f (sym (g.inv.present a) ∙ sa) (sym (g.inv.present b) ∙ sb) lt;
+    every = verdict_at m sound alike F (slice_get payloads) y.berths y.copies y.history g;
+    apart = g.inv.own;
     holds = λ a b f x z o sa sb eo ex ez eq. equal_holds m sound F (slice_get payloads) y.berths y.copies y.history g a b f x z o (sym (g.inv.present a) ∙ sa) (sym (g.inv.present b) ∙ sb) (nth_below payloads f o eo) eo ex ez eq;
     lawful = lawful m sound alike F (slice_get payloads) y.berths y.copies y.history g payloads refl;
   }
@@ -37,6 +40,7 @@ law_of m sound alike payloads y r = points m sound alike payloads y (reached_goo
 pub lawful_call : {Pen C P : Type 0} (m : Meaning Pen C) (sound : Sound m) (alike : P → P → Bool) (c : Call P) (bs : List (Berth Pen)) (cs : List (Record C P)) → LawfulCall m alike c bs cs (leaves m alike c bs cs)
 lawful_call m sound alike c bs cs payloads h r =
     let g = reached_good m sound payloads alike (yard bs cs h) r in record {
+      before = points m sound alike payloads (yard bs cs h) g;
       lawful = lawful m sound alike (length payloads) (slice_get payloads) bs cs h g payloads refl c;
       points = points m sound alike payloads (called m alike c (yard bs cs h)) (leaves_good m sound (length payloads) (slice_get payloads) bs cs h g alike c);
     }

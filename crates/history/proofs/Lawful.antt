@@ -49,27 +49,27 @@ module _ {Pen C P : Type 0} (m : Meaning Pen C) (sound : Sound m) (alike : P →
       go (Some e) p = r e p
       go None p = d (passed (checks m c bs cs) p)
 
-  verdict_at : (card : Card) → wrong_sizes card bs cs ≡ None → (a b f : ℕ) → working bs a ≡ true → working bs b ≡ true → f < card.files → Compares (judged m card.files cs a b f) (h.behind a f) (h.behind b f)
-  verdict_at card q a b f ua ub lt = compared m sound card.files opening bs cs h (at_card m sound files opening bs cs h g card q) a b f ua ub lt
+  pub verdict_at : (card : Card) (a b f : ℕ) → wrong_sizes card bs cs ≡ None → working bs a ≡ true → working bs b ≡ true → f < card.files → Compares (judged m card.files cs a b f) (h.behind a f) (h.behind b f)
+  verdict_at card a b f q ua ub lt = compared m sound card.files opening bs cs h (at_card m sound files opening bs cs h g card q) a b f ua ub lt
 
   gives : (c : Call P) → Gives h c (leaves m alike c bs cs)
   gives (fork card a b) = tt
   gives (edit card a f p) = tt
   gives (judge card a b f) = ways (judge card a b f) (Gives h (judge card a b f)) (λ e q v ok. absurd (err_not_ok e v ok))
       (λ q v ok. subst (λ v. Compares v (h.behind a f) (h.behind b f)) (ok_is _ v ok)
-      (verdict_at card q.0 a b f (in_use bs a q.1.1.1.1.0) (in_use bs b q.1.1.1.1.1.0) (file_below card f q.1.1.1.0)))
+      (verdict_at card a b f q.0 (in_use bs a q.1.1.1.1.0) (in_use bs b q.1.1.1.1.1.0) (file_below card f q.1.1.1.0)))
   gives (report card a b bytes) = ways (report card a b bytes) (Gives h (report card a b bytes)) (λ e q v ok. absurd (err_not_ok e v ok))
       (λ q v ok f lf. byte_compares _ (judged m card.files cs a b f) _ _ (reported_byte card.files _ bytes (roomy card bytes q.1.1.1.1.1.0) f lf)
-      (verdict_at card q.0 a b f (in_use bs a q.1.1.1.0) (in_use bs b q.1.1.1.1.0) lf))
+      (verdict_at card a b f q.0 (in_use bs a q.1.1.1.0) (in_use bs b q.1.1.1.1.0) lf))
   gives (pull card a b bytes) = ways (pull card a b bytes) (Gives h (pull card a b bytes)) (λ e q v ok. absurd (err_not_ok e v ok))
       (λ q v ok f lf. byte_compares _ (judged m card.files cs b a f) _ _ (reported_byte card.files _ bytes (roomy card bytes q.1.1.1.1.1.1.0) f lf)
-      (verdict_at card q.0 b a f (in_use bs b q.1.1.1.1.1.0) (in_use bs a q.1.1.1.1.0) lf))
+      (verdict_at card b a f q.0 (in_use bs b q.1.1.1.1.1.0) (in_use bs a q.1.1.1.1.0) lf))
   gives (settle card a b f p) = ways (settle card a b f p) (Gives h (settle card a b f p)) (λ e q ok. absurd (err_not_ok e tt ok))
       (λ q ok. subst (λ v. Compares v (h.behind b f) (h.behind a f)) (conflict_is (judged m card.files cs b a f) (not-false _ (undue _ _ q.1.1.1.1.1.1.1.0)))
-      (verdict_at card q.0 b a f (in_use bs b q.1.1.1.1.1.1.0) (in_use bs a q.1.1.1.1.1.0) (file_below card f q.1.1.1.0)))
+      (verdict_at card b a f q.0 (in_use bs b q.1.1.1.1.1.1.0) (in_use bs a q.1.1.1.1.1.0) (file_below card f q.1.1.1.0)))
   gives (retire card a b) = ways (retire card a b) (Gives h (retire card a b)) (λ e q ok. absurd (err_not_ok e tt ok))
       (λ q ok f lf con. is_no_conflict (judged m card.files cs b a f) (no_conflicts m sound files opening bs cs h g card.files a b (calm b _ q.1.1.1.1.1.1.0) f lf)
-      ((verdict_at card q.0 b a f (in_use bs b q.1.1.1.1.1.0) (in_use bs a q.1.1.1.1.0) lf).conflict.1 (con.conflict.0 refl)))
+      ((verdict_at card b a f q.0 (in_use bs b q.1.1.1.1.1.0) (in_use bs a q.1.1.1.1.0) lf).conflict.1 (con.conflict.0 refl)))
   gives (drop card a) = tt
   gives (seal card) = tt
 
@@ -89,7 +89,7 @@ module _ {Pen C P : Type 0} (m : Meaning Pen C) (sound : Sound m) (alike : P →
       let ub : working bs b ≡ true = in_use bs b q.1.1.1.1.1.0 in
       retired_still files h a b (differ a b q.1.1.1.0) (g.inv.present b ∙ ub) (λ f lt.
       let lf : f < card.files = subst (λ x. f < x) (card_files m sound files opening bs cs h g card q.0) lt in
-      nested _ (h.behind b f) (h.behind a f) (verdict_at card q.0 b a f ub ua lf) (no_conflicts m sound files opening bs cs h g card.files a b (calm b _ q.1.1.1.1.1.1.0) f lf)))
+      nested _ (h.behind b f) (h.behind a f) (verdict_at card b a f q.0 ub ua lf) (no_conflicts m sound files opening bs cs h g card.files a b (calm b _ q.1.1.1.1.1.1.0) f lf)))
   still (drop card a) = ways (drop card a) (λ l. accepted_drop {P = P} (drop card a) l.answer ≡ false → Still files h (after (drop card a) l.answer h)) (λ e q nd. same_still files h) (λ q nd. absurd (both_ways true nd refl))
   still (seal card) = λ nd. same_still files h
 
@@ -138,7 +138,7 @@ module _ {Pen C P : Type 0} (m : Meaning Pen C) (sound : Sound m) (alike : P →
       (λ z. ⊎_elim
       (λ y.
       let l = y.0 in
-      let w = verdict_at card l.0 b a f (in_use bs b l.1.1.1.1.1.1.0) (in_use bs a l.1.1.1.1.1.0) (file_below card f l.1.1.1.0) in
+      let w = verdict_at card b a f l.0 (in_use bs b l.1.1.1.1.1.1.0) (in_use bs a l.1.1.1.1.1.0) (file_below card f l.1.1.1.0) in
       let v : judged m card.files cs b a f ≡ Conflict = w.conflict.1 (con.conflict.0 refl) in
       let x : no_conflict m card.files cs a b f ≡ None = cond-false _ _ _ (ap (λ (u : Verdict). not (is_conflict u)) v) in
       let y' = y.1 in
@@ -152,7 +152,7 @@ module _ {Pen C P : Type 0} (m : Meaning Pen C) (sound : Sound m) (alike : P →
       let l = y.0 in
       let s = conflict_at b _ e y.1 in
       let t = lowest_some card.files (λ f. is_conflict (judged m card.files cs b a f)) s.0 s.1 in
-      let w : (f : ℕ) → f < card.files → Compares (judged m card.files cs b a f) (h.behind b f) (h.behind a f) = λ f lf. verdict_at card l.0 b a f (in_use bs b l.1.1.1.1.1.0) (in_use bs a l.1.1.1.1.0) lf in (
+      let w : (f : ℕ) → f < card.files → Compares (judged m card.files cs b a f) (h.behind b f) (h.behind a f) = λ f lf. verdict_at card b a f l.0 (in_use bs b l.1.1.1.1.1.0) (in_use bs a l.1.1.1.1.0) lf in (
         s.0,
         ap (λ (z : Fault). z.file) s.2,
         subst (λ v. Compares v (h.behind b s.0) (h.behind a s.0)) (conflict_is _ t.1) (w s.0 t.0),

@@ -1,25 +1,32 @@
 -- The law of histories, in words of the edits behind the copies.
 --
+-- Every verdict compares the accepted edits behind two copies of one file just before the call that gives or uses it: that is `EveryVerdict`,
+-- which stands on each call's contract of the yard as the call was handed it (`Kept.before.every`), refused calls included.
+--
 -- Compares v s t   verdict v says how the set s stands against the set t
+-- EveryVerdict     every verdict on two copies of one file that a call of the yard can give or use compares the edits behind the two: whatever card
+--                  passes the check of the sizes, for any two berths in use, which may be one, and any file
 -- Holds            a copy holds the opening payload if no edit is behind it, else that of the one edit behind it that was made with exactly all the others behind it
 -- Lawful           of one call: verdicts that it gives or rests on compare the sets just before it, and every edit behind some copy just before is behind some copy still, unless it is an accepted drop; 12 never comes
--- Points           of one yard: its tables are well made, verdicts on its copies compare their sets, copies judged equal hold the same payload, and every further call is lawful
+-- Points           of one yard: its tables are well made, the berths in use have the copies, every verdict compares, copies judged equal hold the same payload, pens of different berths have no mark in common, and every further call is lawful
 -- LawOf           the points hold of every yard that calls lead to
--- LawfulCall      the same at one call: what it does and the yard that it leaves, whatever calls led to the tables as handed in
+-- Kept             of one call: the points of the yard as it was handed in, what the call does, and the points of the yard that it leaves
+-- LawfulCall      that, whatever calls led to the tables as handed in
 -- LawfulAt        the same, whatever test says that two payloads are alike: for a call that does not ask it
 -- LawfulOpen      the same at open
-use Rattle.std.specs.Prelude.{◌≡◌, ℕ, ◌+◌, ◌*◌, ◌<◌, Bool, true, false, not, ◌&&◌, ◌⊎◌, ◌↔◌, List, length, Some, Ok, Err, Result, ◌==◌, ◌≢◌, slice_index}
+use Rattle.std.specs.Prelude.{◌≡◌, ℕ, ◌+◌, ◌*◌, ◌<◌, Bool, true, false, not, ◌&&◌, ◌⊎◌, ◌↔◌, List, length, Some, None, Ok, Err, Result, ◌==◌, ◌≢◌, slice_index}
 use Rattle.std.specs.List.{slice_get}
 use Rattle.clock.specs.declared.causes.Cause.TheVariants.{NoConflict, InConflict, PensOverlap}
 use Rattle.clock.specs.declared.faults.Fault.{Fault}
 use Rattle.clock.specs.declared.verdicts.Verdict.{Verdict}
 use Rattle.clock.specs.declared.verdicts.Verdict.TheVariants.{Equal, Stale, Ahead, Conflict}
 use Rattle.clock.specs.Meaning.{Meaning}
+use Rattle.clock.specs.Sound.{Apart}
 use Rattle.clock.specs.Verdicts.{byte_of}
 use Rattle.history.specs.declared.tables.Berth.{Berth}
 use Rattle.history.specs.declared.tables.Record.{Record}
-use Rattle.history.specs.Tables.{Card, Made, judged}
-use Rattle.history.specs.Checks.{Left}
+use Rattle.history.specs.Tables.{Card, Made, working, pen_at, judged}
+use Rattle.history.specs.Checks.{Left, wrong_sizes}
 use Rattle.history.specs.Calls.{Call, fork, edit, judge, report, pull, settle, retire, drop, seal, Answer, leaves}
 use Rattle.history.specs.History.{has, Edited, History, Yard, yard, left_yard, new_yard, after, Reached}
 
@@ -58,6 +65,15 @@ module _ {Pen C P : Type 0} (m : Meaning Pen C) (payloads : List P) (y : Yard Pe
   -- the verdict on any two copies of one file compares their sets
   abbrev pub Verdicts : Type 0
   Verdicts = (a b f : ℕ) → Stands a → Stands b → f < length payloads → Compares (judged m (length payloads) y.copies a b f) (y.history.behind a f) (y.history.behind b f)
+
+  -- every verdict that a call can give or use, under whatever card, compares the edits behind the two copies
+  abbrev pub EveryVerdict : Type 0
+  EveryVerdict = (card : Card) (a b f : ℕ) → wrong_sizes card y.berths y.copies ≡ None → working y.berths a ≡ true → working y.berths b ≡ true → f < card.files →
+      Compares (judged m card.files y.copies a b f) (y.history.behind a f) (y.history.behind b f)
+
+  -- pens of different berths have no mark in common
+  abbrev pub PensApart : Type 0
+  PensApart = (a b : ℕ) → (a ≢ b) → Apart m (pen_at m y.berths a) (pen_at m y.berths b)
 
   -- the records x and z of berths a and b and file f, judged equal, hold the same payload
   abbrev pub Payloads : Type 0
@@ -109,27 +125,32 @@ module _ {P : Type 0} where
 pub record Lawful {Pen C P : Type 0} (payloads : List P) (h : History P) (c : Call P) (left : Left Pen C P (Answer c)) : Type 0 where
   pub gives : Gives h c left
   pub uses : Uses h c left
-  -- pens never overlap
+  -- no call is refused since pens overlap
   pub clear : (e : Fault) → left.answer ≡ Err e → e.cause ≢ PensOverlap
   pub still : accepted_drop c left.answer ≡ false → Still (length payloads) h (after c left.answer h)
 
 pub record Points {Pen C P : Type 0} (m : Meaning Pen C) (alike : P → P → Bool) (payloads : List P) (y : Yard Pen C P) : Type 0 where
   pub made : Made m y.berths y.copies
+  -- the berths that have copies are those in use
+  pub stand : (b : ℕ) → y.history.present b ≡ working y.berths b
   pub verdicts : Verdicts m payloads y
+  pub every : EveryVerdict m payloads y
   pub holds : Payloads m payloads y
+  pub apart : PensApart m payloads y
   pub lawful : (c : Call P) → Lawful payloads y.history c (leaves m alike c y.berths y.copies)
 
 -- one clock kind and one payload type, whatever test says that two payloads are alike
 abbrev pub LawOf : {Pen C : Type 0} → Meaning Pen C → Type 0 → Type 0
 LawOf {Pen} {C} m P = (alike : P → P → Bool) (payloads : List P) (y : Yard Pen C P) → Reached m alike payloads y → Points m alike payloads y
 
--- at one call and the yard that it leaves
-pub record Kept {Pen C P : Type 0} (m : Meaning Pen C) (alike : P → P → Bool) (payloads : List P) (h : History P) (c : Call P) (left : Left Pen C P (Answer c)) : Type 0 where
-  pub lawful : Lawful payloads h c left
-  pub points : Points m alike payloads (left_yard c left h)
+-- at one call: the yard y as it was handed in, the call, and the yard that it leaves
+pub record Kept {Pen C P : Type 0} (m : Meaning Pen C) (alike : P → P → Bool) (payloads : List P) (y : Yard Pen C P) (c : Call P) (left : Left Pen C P (Answer c)) : Type 0 where
+  pub before : Points m alike payloads y
+  pub lawful : Lawful payloads y.history c left
+  pub points : Points m alike payloads (left_yard c left y.history)
 
 abbrev pub LawfulCall : {Pen C P : Type 0} → Meaning Pen C → (P → P → Bool) → (c : Call P) → List (Berth Pen) → List (Record C P) → Left Pen C P (Answer c) → Type 0
-LawfulCall {P = P} m alike c bs cs left = (payloads : List P) (h : History P) → Reached m alike payloads (yard bs cs h) → Kept m alike payloads h c left
+LawfulCall {P = P} m alike c bs cs left = (payloads : List P) (h : History P) → Reached m alike payloads (yard bs cs h) → Kept m alike payloads (yard bs cs h) c left
 
 abbrev pub LawfulAt : {Pen C P : Type 0} → Meaning Pen C → (c : Call P) → List (Berth Pen) → List (Record C P) → Left Pen C P (Answer c) → Type 0
 LawfulAt {P = P} m c bs cs left = (alike : P → P → Bool) → LawfulCall m alike c bs cs left

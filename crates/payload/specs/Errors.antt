@@ -3,7 +3,7 @@
 -- decimal_error_text e  why a text is no number
 -- valve_error_text e    why there is no such valve
 -- ticket_error_text e   why a word is no ticket
--- valve_error_number e, ticket_error_number e
+-- decimal_error_number e, valve_error_number e, ticket_error_number e
 --                       the number of the refusal
 use Rattle.std.specs.Prelude.{ℕ, List, codes}
 use Rattle.payload.specs.declared.decimals.DecimalError.{DecimalError}
@@ -16,6 +16,10 @@ use Rattle.payload.specs.declared.tickets.TicketError.TheVariants as ticket
 abbrev pub decimal_error_text : DecimalError → List ℕ
 decimal_error_text decimal.NotNumber = codes "not a decimal number"
 decimal_error_text decimal.OutOfRange = codes "the number does not fit 64 bits"
+
+abbrev pub decimal_error_number : DecimalError → ℕ
+decimal_error_number decimal.NotNumber = 1
+decimal_error_number decimal.OutOfRange = 2
 
 abbrev pub valve_error_text : ValveError → List ℕ
 valve_error_text valve.UnknownWord = codes "not a word of a valve"

@@ -2,7 +2,7 @@ ghost use Rattle.std.specs.Prelude.{◌≡◌, Some};
 ghost use Rattle.std.specs.Char.{is_ascii_digit};
 ghost use Rattle.std.specs.List.{list_all};
 ghost use Rattle.payload.specs.Decimals.{plain, decimal_of};
-ghost use Rattle.payload.specs.Errors.{decimal_error_text};
+ghost use Rattle.payload.specs.Errors.{decimal_error_text, decimal_error_number};
 
 use std::error::Error;
 use std::fmt;
@@ -14,6 +14,15 @@ pub enum DecimalError {
     NotNumber = 1,
     /// It does not fit 64 bits.
     OutOfRange = 2,
+}
+
+/// The number of the refusal.
+impl From<DecimalError> for u8 {
+    ghost from_gives = { λ error number. number ≡ decimal_error_number error };
+
+    fn from(error: DecimalError) -> u8 {
+        error as u8
+    }
 }
 
 impl fmt::Display for DecimalError {

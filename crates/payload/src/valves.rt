@@ -1,5 +1,5 @@
 ghost use Rattle.std.specs.Prelude.{◌≡◌, IfOk, Some};
-ghost use Rattle.payload.specs.Valves.{shut_valve, open_valve, part_valve, flow_valve, case_of, number_of, valve_word, number_word, valve_text, ReadBack, same_valve};
+ghost use Rattle.payload.specs.Valves.{shut_valve, open_valve, part_valve, flow_valve, case_of, case_number, number_of, valve_word, number_word, valve_text, ReadBack, same_valve};
 ghost use Rattle.payload.specs.Errors.{valve_error_text, valve_error_number};
 ghost use Rattle.std.proofs.Common.{rules};
 
@@ -18,6 +18,15 @@ pub enum Case {
     Part = 2,
     /// Set to a flow in litres a second.
     Flow = 3,
+}
+
+/// The number of the case.
+impl From<Case> for u8 {
+    ghost from_gives = { λ case number. number ≡ case_number case };
+
+    fn from(case: Case) -> u8 {
+        case as u8
+    }
 }
 
 /// The state of a valve: shut, open, part with 1 to 99 percent, or flow with 0

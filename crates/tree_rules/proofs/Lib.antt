@@ -18,6 +18,7 @@ pub mod GrowSizes
 pub mod Growing
 pub mod Gaining
 pub mod RulesHold
+pub mod PlainRules
 pub mod PenLaws
 pub mod ClockLaws
 pub mod EventLaws

@@ -8,6 +8,8 @@ pub mod Fill
 pub mod Grow
 pub mod Reach
 pub mod Shape
+pub mod IdRules
+pub mod NormRules
 pub mod JoinRules
 pub mod GrowRules
 pub mod Laws

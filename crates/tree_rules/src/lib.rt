@@ -6,13 +6,18 @@
 
 ghost use Rattle.clock.specs.Sound.{Sound};
 ghost use Rattle.tree_rules.specs.GrowRules.{EventRules, FillRules, GrowRules};
+ghost use Rattle.tree_rules.specs.IdRules.{SplitRules, SumRules};
 ghost use Rattle.tree_rules.specs.JoinRules.{JoinRules};
 ghost use Rattle.tree_rules.specs.Kind.{tree};
 ghost use Rattle.tree_rules.specs.Laws.{CanonicalIds, CanonicalTrees};
+ghost use Rattle.tree_rules.specs.NormRules.{NormRules};
 
 /// The definitions are the published rules, a normal form is the only one of
 /// its marks, and ids and event trees with these rules are a sound clock kind.
 pub fn rules_hold()
+    ensures norm { NormRules }
+    ensures split { SplitRules }
+    ensures sum { SumRules }
     ensures join { JoinRules }
     ensures fill { FillRules }
     ensures grow { GrowRules }
