@@ -23,6 +23,11 @@ append_none [] k q = refl
 append_none (Some d ∷ l) k q = let z : ◌≡◌ {A = ℕ} 0 1 = cc in absurd (omega arith)
 append_none (None ∷ l) k q = append_none l k q
 
+pub append_first : (l k : List (Option Fault)) (e : Fault) → first l ≡ Some e → first (l ++ k) ≡ Some e
+append_first [] k e q = let z : ◌≡◌ {A = ℕ} 0 1 = cc in absurd (omega arith)
+append_first (Some d ∷ l) k e q = q
+append_first (None ∷ l) k e q = append_first l k e q
+
 -- the kind's answer where a cause is due, and where none is
 pub due_when : {X : Type 0} (b f : Option ℕ) (o : Option Cause) (v : X) (e : Fault) → Err e ≡ at_place b f (answered o v) → placed b f o ≡ Some e
 due_when b f (Some c) v e q = let z : e ≡ fault c b f = cc in ap Some (sym z)
@@ -51,6 +56,13 @@ module _ {Pen C P A : Type 0} (bs : List (Berth Pen)) (cs : List (Record C P)) (
 pub passing_ok : (o : Option Fault) → Ok tt ≡ passing o → o ≡ None
 passing_ok (Some d) q = let z : ◌≡◌ {A = ℕ} 0 1 = cc in absurd (omega arith)
 passing_ok None q = refl
+
+pub passing_err : (o : Option Fault) (e : Fault) → Err e ≡ passing o → o ≡ Some e
+passing_err (Some d) e q = let z : e ≡ d = cc in ap Some (sym z)
+passing_err None e q = let z : ◌≡◌ {A = ℕ} 0 1 = cc in absurd (omega arith)
+
+pub head_some : (o : Option Fault) (l : List (Option Fault)) (e : Fault) → o ≡ Some e → first (o ∷ l) ≡ Some e
+head_some o l e q = ap (λ (z : Option Fault). first (z ∷ l)) q
 
 pub head-none : (o : Option Fault) (l : List (Option Fault)) → o ≡ None → first (o ∷ l) ≡ first l
 head-none o l q = ap (λ (z : Option Fault). first (z ∷ l)) q

@@ -10,9 +10,12 @@ use Rattle.history.specs.Tables.{Card, pen_in, pen_at, clock_in, clock_at}
 use Rattle.history.specs.Checks.{left}
 use Rattle.history.specs.Edit.{edit_plain, edited, edit_result}
 use Rattle.yard_checks.specs.Passing.{all_pass, at_place}
-use Rattle.yard_checks.proofs.Outcomes.{then_one, due_when, none-due_when, refused, accepted}
+use Rattle.yard_checks.proofs.Outcomes.{refused_first, append_first, then_one, due_when, none-due_when, refused, accepted}
 
 module _ {Pen C P : Type 0} (m : Meaning Pen C) (card : Card) (bs : List (Berth Pen)) (cs : List (Record C P)) (a f : ℕ) (p : P) where
+  pub edit_barred : (e : Fault) (q : Result (Unit {0}) Fault) → Err e ≡ all_pass (edit_plain card bs cs a f) → q ≡ Err e → left q bs cs [] ≡ edit_result m card bs cs a f p
+  edit_barred e q d z = refused bs cs [] (edited m card bs cs a f p) _ e q (append_first (edit_plain card bs cs a f) _ e (refused_first (edit_plain card bs cs a f) e d)) z
+
   module _ (i : ℕ) (x : Berth Pen) (r : Record C P) (passes : Ok tt ≡ all_pass (edit_plain card bs cs a f)) (at : i ≡ a * card.files + f) (ex : slice_get bs a ≡ Some x) (er : slice_get cs i ≡ Some r) (o : Result C Fault) (eo : o ≡ answered (m.event_due x.pen r.clock) (m.evented x.pen r.clock)) where
     er' : slice_get cs (a * card.files + f) ≡ Some r
     er' = subst (λ n. slice_get cs n ≡ Some r) at er

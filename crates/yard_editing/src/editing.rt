@@ -29,25 +29,6 @@ fn check_edit<Q, C, P>(
     check_working(berths, a)
 }
 
-// The edit, under a card of these sizes.
-fn edit_copy<C: Clock, P: Copy>(
-    sizes: Sizes,
-    berths: &[Berth<C::Pen>],
-    copies: &mut [Record<C, P>],
-    a: usize,
-    f: usize,
-    payload: P,
-) -> Result<(), Fault>
-    requires made { Made C.Clock.meaning berths.now copies.old }
-    ensures { left result berths.now copies.new [] ≡ edit_result C.Clock.meaning sizes berths.now copies.old a f payload }
-{
-    check_edit(sizes, berths, copies, a, f)?;
-    let i = place(sizes, a, f);
-    let clock = copies[i].clock.event(&berths[a].pen).at(a, f)?;
-    copies[i] = Record { clock, payload };
-    Ok(())
-}
-
 /// Working berth `a` writes `payload` into its copy of file `f`, an event under
 /// its pen. Refused with 1, 2, 3, 5, and the kind's 14 to 16.
 pub fn edit<C: Clock, P: Copy>(
@@ -63,5 +44,10 @@ pub fn edit<C: Clock, P: Copy>(
     ensures made { Made C.Clock.meaning berths.now copies.new }
     ensures history { LawfulAt C.Clock.meaning (edit_call card.now a f payload) berths.now copies.old (left result berths.now copies.new []) }
 {
-    edit_copy(card.sizes(), berths, copies, a, f, payload)
+    let sizes = card.sizes();
+    check_edit(sizes, berths, copies, a, f)?;
+    let i = place(sizes, a, f);
+    let clock = copies[i].clock.event(&berths[a].pen).at(a, f)?;
+    copies[i] = Record { clock, payload };
+    Ok(())
 }

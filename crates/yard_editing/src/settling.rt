@@ -1,4 +1,4 @@
-ghost use Rattle.std.specs.Prelude.{◌≡◌, ◌<◌, not, [], length, Some, None};
+ghost use Rattle.std.specs.Prelude.{◌≡◌, not, [], Some, None};
 ghost use Rattle.clock.specs.Answers.{due};
 ghost use Rattle.clock.specs.declared.causes.Cause.TheVariants.{NoConflict};
 ghost use Rattle.history.specs.Tables.{is_conflict, Made};
@@ -7,8 +7,6 @@ ghost use Rattle.history.specs.Settle.{settle_plain, settle_result};
 ghost use Rattle.history.specs.Calls.{settle as settle_call};
 ghost use Rattle.history.specs.Law.{LawfulAt};
 ghost use Rattle.yard_checks.specs.Passing.{passing, all_pass};
-ghost use Rattle.yard_checks.specs.Ready.{Ready};
-ghost use Rattle.yard_editing.specs.Settling.{settle_late};
 
 use clock::{Cause, Clock, Fault, Verdict};
 use history::{Berth, Record, Sizes};
@@ -19,8 +17,6 @@ use yard_checks::{
 
 // The pens and clocks of the tables are plain data with no invariant in their types, a rule of the project: so `made`,
 // and what it says of one table, stands on each contract. Two berths, or a berth and a file, are no one thing.
-// `Ready` ties two berths, the sizes and a lent table: no one value holds them, and a struct of them would have a
-// maker for each call, with the proof that the call's own checks give it.
 
 fn check_settle<Q, C, P>(
     sizes: Sizes,
@@ -49,48 +45,6 @@ fn check_conflict(verdict: Verdict, b: usize, f: usize) -> Result<(), Fault>
     refuse_if(verdict != Verdict::Conflict, fault)
 }
 
-// The join of the two clocks and an event on it, into b's copy.
-fn settle_copy<C: Clock, P: Copy>(
-    sizes: Sizes,
-    berths: &[Berth<C::Pen>],
-    copies: &mut [Record<C, P>],
-    a: usize,
-    b: usize,
-    f: usize,
-    payload: P,
-) -> Result<(), Fault>
-    requires made { Made C.Clock.meaning berths.now copies.old }
-    requires ready { (Ready sizes (length berths.now) (length copies.old) a b) × (f < sizes.files) }
-    ensures { left result berths.now copies.new [] ≡ settle_late C.Clock.meaning sizes berths.now copies.old a b f payload }
-{
-    let i = place(sizes, b, f);
-    let j = place(sizes, a, f);
-    let theirs = copies[j].clock;
-    let ours = copies[i].clock;
-    check_conflict(ours.compare(&theirs), b, f)?;
-    let joined = ours.join(&theirs).at(b, f)?;
-    let clock = joined.event(&berths[b].pen).at(b, f)?;
-    copies[i] = Record { clock, payload };
-    Ok(())
-}
-
-// The settling, under a card of these sizes.
-fn settle_berth<C: Clock, P: Copy>(
-    sizes: Sizes,
-    berths: &[Berth<C::Pen>],
-    copies: &mut [Record<C, P>],
-    a: usize,
-    b: usize,
-    f: usize,
-    payload: P,
-) -> Result<(), Fault>
-    requires made { Made C.Clock.meaning berths.now copies.old }
-    ensures { left result berths.now copies.new [] ≡ settle_result C.Clock.meaning sizes berths.now copies.old a b f payload }
-{
-    check_settle(sizes, berths, copies, a, b, f)?;
-    settle_copy(sizes, berths, copies, a, b, f, payload)
-}
-
 /// Working berth `b` ends the conflict of its copy of file `f` with `a`'s: its
 /// clock becomes the join of the two and an event on it, its payload the one
 /// given. Refused with 1 to 5, 7, join's 15, then event's 14 to 16.
@@ -108,5 +62,15 @@ pub fn settle<C: Clock, P: Copy>(
     ensures made { Made C.Clock.meaning berths.now copies.new }
     ensures history { LawfulAt C.Clock.meaning (settle_call card.now a b f payload) berths.now copies.old (left result berths.now copies.new []) }
 {
-    settle_berth(card.sizes(), berths, copies, a, b, f, payload)
+    let sizes = card.sizes();
+    check_settle(sizes, berths, copies, a, b, f)?;
+    let i = place(sizes, b, f);
+    let j = place(sizes, a, f);
+    let theirs = copies[j].clock;
+    let ours = copies[i].clock;
+    check_conflict(ours.compare(&theirs), b, f)?;
+    let joined = ours.join(&theirs).at(b, f)?;
+    let clock = joined.event(&berths[b].pen).at(b, f)?;
+    copies[i] = Record { clock, payload };
+    Ok(())
 }
