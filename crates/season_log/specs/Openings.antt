@@ -2,10 +2,12 @@
 --
 -- kind_word w            the clock kind that the word names, or the mistake
 -- payload_word w         the payload kind that the word names, or the mistake
+-- kind_number k          the number of a clock kind
+-- payload_number p       the number of a payload kind
 -- Opens ws o             the words name the kinds of the opening and its berths, and its own words are all those after them
 -- opening_mistake ws     the mistake at the first of the three words that is wrong
 -- OpeningMistake ws m    m says that the words are fewer than three, or which of the three is the first that is wrong
-use Rattle.std.specs.Prelude.{◌≡◌, ◌<◌, cond, codes, List, ◌∷◌, length, Some, None, Option, Ok, Err, Result}
+use Rattle.std.specs.Prelude.{◌≡◌, ◌<◌, ℕ, cond, codes, List, ◌∷◌, length, Some, None, Option, Ok, Err, Result}
 use Rattle.std.specs.Str.{bytes_eq}
 use Rattle.season_log.specs.declared.mistakes.Mistake.{Mistake}
 use Rattle.season_log.specs.declared.mistakes.Mistake.TheVariants.{WordCount, UnknownKind, UnknownPayload}
@@ -27,6 +29,14 @@ payload_word w =
     cond (bytes_eq w.now (codes "valve")) (Ok Valve)
     (cond (bytes_eq w.now (codes "ticket")) (Ok Ticket)
     (Err (UnknownPayload w)))
+
+abbrev pub kind_number : Kind → ℕ
+kind_number Tree = 0
+kind_number Vector = 1
+
+abbrev pub payload_number : PayloadKind → ℕ
+payload_number Valve = 0
+payload_number Ticket = 1
 
 abbrev pub Opens : List Word → Opening → Type 0
 Opens (k ∷ p ∷ b ∷ ws) o = (kind_word k ≡ Ok o.kind) × (payload_word p ≡ Ok o.payload) × (number_word b ≡ Ok o.berths) × (o.words.now ≡ ws)

@@ -1,5 +1,5 @@
 ghost use Rattle.std.specs.Prelude.{◌≡◌, IfOk, IfErr};
-ghost use Rattle.season_log.specs.Openings.{kind_word, payload_word, Opens, OpeningMistake};
+ghost use Rattle.season_log.specs.Openings.{kind_word, payload_word, kind_number, payload_number, Opens, OpeningMistake};
 
 use crate::mistakes::Mistake;
 use crate::numbers::number;
@@ -11,6 +11,15 @@ pub enum Kind {
     Tree = 0,
     /// Names and counts.
     Vector = 1,
+}
+
+/// The number of the clock kind.
+impl From<Kind> for u8 {
+    ghost from_gives = { λ kind number. number ≡ kind_number kind };
+
+    fn from(kind: Kind) -> u8 {
+        kind as u8
+    }
 }
 
 impl Kind {
@@ -32,6 +41,15 @@ pub enum PayloadKind {
     Valve = 0,
     /// A digest with a length.
     Ticket = 1,
+}
+
+/// The number of the payload kind.
+impl From<PayloadKind> for u8 {
+    ghost from_gives = { λ kind number. number ≡ payload_number kind };
+
+    fn from(kind: PayloadKind) -> u8 {
+        kind as u8
+    }
 }
 
 impl PayloadKind {

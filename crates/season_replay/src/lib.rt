@@ -2,7 +2,7 @@
 //!
 //! ```text
 //! let yard = Yard::Open(season);
-//! let (yard, answered) = yard.carry_out("judge", call)?;     // Ok(Answer::Judged(..)), or a refusal
+//! let (yard, answered) = yard.carry_out("judge", call);      // Ok(Ok(Answer::Judged(..))), a refusal, or a mistake
 //! ```
 
 #![tactic(auto)]

@@ -22,23 +22,28 @@ pub type Answered<C> = Result<Answer<<C as Clock>::Pen, C>, Fault>;
 
 impl<C: Clock, P: Payload> Yard<C, P> {
     /// Carries out the call of this name: the yard that it leaves, and what it is
-    /// answered. In a sealed yard a call that writes is a mistake.
+    /// answered. In a sealed yard a call that writes is a mistake, and the yard
+    /// stays as it was.
     pub fn carry_out<'a>(
         self,
         name: &'a str,
         call: Call<P>,
-    ) -> Result<(Yard<C, P>, Answered<C>), Mistake<'a>>
-        ensures carried { takes self call ≡ true → IsOkAnd result (λ x. Carried C.meaning P.same self call x.0 x.1) }
-        ensures mistake { takes self call ≡ false → IsErrOf result (SealedMistake name.entry) }
+    ) -> (Yard<C, P>, Result<Answered<C>, Mistake<'a>>)
+        ensures carried { takes self call ≡ true → IsOkAnd result.1 (Carried C.meaning P.same self call result.0) }
+        ensures mistake { takes self call ≡ false → IsErrOf result.1 (SealedMistake name.entry) }
+        ensures kept { takes self call ≡ false → result.0 ≡ self }
     {
         match self {
-            Yard::Open(season) => Ok(in_open(season, call)),
+            Yard::Open(season) => {
+                let (yard, answer) = in_open(season, call);
+                (yard, Ok(answer))
+            }
             Yard::Sealed(season) => match call {
                 Call::Reads(call) => {
                     let answer = read(&season, call);
-                    Ok((Yard::Sealed(season), answer))
+                    (Yard::Sealed(season), Ok(answer))
                 }
-                _ => Err(Mistake::Sealed(name)),
+                _ => (Yard::Sealed(season), Err(Mistake::Sealed(name))),
             },
         }
     }
