@@ -2,11 +2,12 @@
 --
 -- valve_reads, ticket_reads      what is read of a word, as a valve and as a ticket
 -- told_valve, told_ticket        how an error of reading is told
--- AnyLine y name ws z            `Line` of Lines, at the kind of the yard y, which the yard z has too
--- AnyMistake y name ws e         `LineMistake` of Lines, at the kind of the yard y
--- AnyOpens asked ws y            `OpenLine` of Openings, at the kinds that are asked for
--- AnyOpenLine ws y               the words after `open` ask for these kinds, this many berths and these opening payloads, and that is opened
--- AnyOpenMistake ws e            e says what is wrong with them
+-- AnyLine y name ws z p          `Line` of Lines, at the kind of the yard y, which the yard z has too
+-- AnyMistake y name ws m         `LineMistake` of Lines, at the kind of the yard y
+-- AnyOpens asked ws y p          `OpenLine` of Openings, at the kinds that are asked for
+-- AnyOpenLine ws y p             the words after `open` ask for these kinds, this many berths and these opening payloads, and that is opened
+-- AnyOpenMistake ws m            m says what is wrong with them
+-- AnyUnopened ws e               no yard was opened: e says what is wrong with them, or that memory ran out
 --
 -- tree_text and vector_text say what a line prints at each clock kind.
 use Rattle.std.specs.Prelude.{◌≡◌, ◌⊎◌, ℕ, List, None, Some, Option, Result}
@@ -36,9 +37,10 @@ use Rattle.season_log.specs.Openings.{Opens, OpeningMistake}
 use Rattle.season_log.specs.Words.{Word}
 use Rattle.season_replay.specs.declared.yards.Yard.{Yard}
 use Rattle.log_replay.specs.declared.errors.LineError.{LineError}
-use Rattle.log_replay.specs.declared.errors.LineError.TheVariants.{Mistake as MistakeError, Io}
+use Rattle.log_replay.specs.declared.errors.LineError.TheVariants.{Mistake as MistakeError, OutOfMemory, Unanswered}
 use Rattle.log_replay.specs.declared.kinds.AnyYard.{AnyYard}
 use Rattle.log_replay.specs.declared.kinds.AnyYard.TheVariants.{TreeValve, TreeTicket, VectorValve, VectorTicket}
+use Rattle.log_replay.specs.Outcomes.{Prints}
 use Rattle.log_replay.specs.Lines.{Line, LineMistake}
 use Rattle.log_replay.specs.Openings.{OpenLine, NoPayload}
 
@@ -54,11 +56,11 @@ told_valve error told = told ≡ ValveTold error
 abbrev pub told_ticket : TicketError → PayloadError → Type 0
 told_ticket error told = told ≡ TicketTold error
 
-abbrev pub AnyMistake : AnyYard → Word → List Word → LineError → Type 0
-AnyMistake (TreeValve y) name ws e = LineMistake valve_reads told_valve y name ws e
-AnyMistake (TreeTicket y) name ws e = LineMistake ticket_reads told_ticket y name ws e
-AnyMistake (VectorValve y) name ws e = LineMistake valve_reads told_valve y name ws e
-AnyMistake (VectorTicket y) name ws e = LineMistake ticket_reads told_ticket y name ws e
+abbrev pub AnyMistake : AnyYard → Word → List Word → Mistake → Type 0
+AnyMistake (TreeValve y) name ws m = LineMistake valve_reads told_valve y name ws m
+AnyMistake (TreeTicket y) name ws m = LineMistake ticket_reads told_ticket y name ws m
+AnyMistake (VectorValve y) name ws m = LineMistake valve_reads told_valve y name ws m
+AnyMistake (VectorTicket y) name ws m = LineMistake ticket_reads told_ticket y name ws m
 
 -- a yard of one kind, or none
 abbrev pub kind_of : {Y : Type 0} → (Y → AnyYard) → Option Y → Option AnyYard
@@ -69,25 +71,29 @@ abbrev pub NoPayloadOf : PayloadKind → List Word → Mistake → Type 0
 NoPayloadOf Valves ws m = NoPayload valve_reads told_valve ws m
 NoPayloadOf Tickets ws m = NoPayload ticket_reads told_ticket ws m
 
-abbrev pub AnyOpenMistake : List Word → LineError → Type 0
-AnyOpenMistake ws (MistakeError m) = OpeningMistake ws m ⊎ ((asked : Opening) × Opens ws asked × NoPayloadOf asked.payload asked.words.now m)
-AnyOpenMistake ws (Io e) = Unit {0}
+abbrev pub AnyOpenMistake : List Word → Mistake → Type 0
+AnyOpenMistake ws m = OpeningMistake ws m ⊎ ((asked : Opening) × Opens ws asked × NoPayloadOf asked.payload asked.words.now m)
+
+abbrev pub AnyUnopened : List Word → LineError → Type 0
+AnyUnopened ws (MistakeError m) = AnyOpenMistake ws m
+AnyUnopened ws OutOfMemory = Unit {0}
+AnyUnopened ws (Unanswered e) = ⊥
 
 module _ (tree_text : List ℕ → List Word → Result (Answer TreePen TreeClock) Fault → Option (List ℕ)) (vector_text : List ℕ → List Word → Result (Answer (Names 16) (Counts 16)) Fault → Option (List ℕ)) where
-  abbrev pub AnyLine : AnyYard → List ℕ → List Word → AnyYard → Option (List ℕ) → Option (List ℕ) → Type 0
-  AnyLine (TreeValve y) name ws (TreeValve z) old new = Line valve_reads tree_kind same_valve tree_text y name ws z old new
-  AnyLine (TreeTicket y) name ws (TreeTicket z) old new = Line ticket_reads tree_kind same_ticket tree_text y name ws z old new
-  AnyLine (VectorValve y) name ws (VectorValve z) old new = Line valve_reads vectors same_valve vector_text y name ws z old new
-  AnyLine (VectorTicket y) name ws (VectorTicket z) old new = Line ticket_reads vectors same_ticket vector_text y name ws z old new
-  AnyLine y name ws z old new = ⊥
+  abbrev pub AnyLine : AnyYard → List ℕ → List Word → AnyYard → Prints → Type 0
+  AnyLine (TreeValve y) name ws (TreeValve z) p = Line valve_reads tree_kind same_valve tree_text y name ws z p
+  AnyLine (TreeTicket y) name ws (TreeTicket z) p = Line ticket_reads tree_kind same_ticket tree_text y name ws z p
+  AnyLine (VectorValve y) name ws (VectorValve z) p = Line valve_reads vectors same_valve vector_text y name ws z p
+  AnyLine (VectorTicket y) name ws (VectorTicket z) p = Line ticket_reads vectors same_ticket vector_text y name ws z p
+  AnyLine y name ws z p = ⊥
 
-  abbrev pub AnyOpens : Kind → PayloadKind → ℕ → List Word → List Word → Option AnyYard → Option (List ℕ) → Option (List ℕ) → Type 0
-  AnyOpens Tree Valves b words ws o old new = (y : Option (Yard TreeClock Valve TreePen)) × (o ≡ kind_of TreeValve y) × OpenLine valve_reads tree_kind tree_text b words ws y old new
-  AnyOpens Tree Tickets b words ws o old new = (y : Option (Yard TreeClock Ticket TreePen)) × (o ≡ kind_of TreeTicket y) × OpenLine ticket_reads tree_kind tree_text b words ws y old new
-  AnyOpens Vector Valves b words ws o old new = (y : Option (Yard (Counts 16) Valve (Names 16))) × (o ≡ kind_of VectorValve y) × OpenLine valve_reads vectors vector_text b words ws y old new
-  AnyOpens Vector Tickets b words ws o old new = (y : Option (Yard (Counts 16) Ticket (Names 16))) × (o ≡ kind_of VectorTicket y) × OpenLine ticket_reads vectors vector_text b words ws y old new
+  abbrev pub AnyOpens : Kind → PayloadKind → ℕ → List Word → List Word → Option AnyYard → Prints → Type 0
+  AnyOpens Tree Valves b words ws o p = (y : Option (Yard TreeClock Valve TreePen)) × (o ≡ kind_of TreeValve y) × OpenLine valve_reads tree_kind tree_text b words ws y p
+  AnyOpens Tree Tickets b words ws o p = (y : Option (Yard TreeClock Ticket TreePen)) × (o ≡ kind_of TreeTicket y) × OpenLine ticket_reads tree_kind tree_text b words ws y p
+  AnyOpens Vector Valves b words ws o p = (y : Option (Yard (Counts 16) Valve (Names 16))) × (o ≡ kind_of VectorValve y) × OpenLine valve_reads vectors vector_text b words ws y p
+  AnyOpens Vector Tickets b words ws o p = (y : Option (Yard (Counts 16) Ticket (Names 16))) × (o ≡ kind_of VectorTicket y) × OpenLine ticket_reads vectors vector_text b words ws y p
 
-  pub record AnyOpenLine (ws : List Word) (o : Option AnyYard) (old new : Option (List ℕ)) : Type 0 where
+  pub record AnyOpenLine (ws : List Word) (o : Option AnyYard) (p : Prints) : Type 0 where
     pub asked : Opening
     pub asks : Opens ws asked
-    pub opens : AnyOpens asked.kind asked.payload asked.berths asked.words.now ws o old new
+    pub opens : AnyOpens asked.kind asked.payload asked.berths asked.words.now ws o p

@@ -1,4 +1,4 @@
-pub mod Errors
+pub mod Outcomes
 pub mod Lines
 pub mod Openings
 pub mod Kinds

@@ -3,8 +3,9 @@
 -- Payloads ws ps           the words stand for these payloads, one for each
 -- NoPayload ws m           m says which word is the first that is no payload, and why
 -- OpensTo b ps y r         an open of b berths with these opening payloads leaves the yard y, or none, and is answered r
--- OpenLine b ws y          the words stand for payloads; the open leaves the yard y, or none, and the line is written with its answer
--- OpenMistake ws e         e says that some word is no payload; of an error of writing, or of want of memory, nothing is claimed
+-- OpensYard b ws y r       the words stand for payloads; the open leaves the yard y, or none, and is answered r
+-- OpenLine b ws y p        that, and the line is printed with its answer
+-- OpenMistake ws e         no yard was opened: e says that some word is no payload, or that memory ran out
 --
 -- g is the payload kind's `from_str_gives`, conv the `from_gives` of its errors.
 use Rattle.std.specs.Prelude.{◌≡◌, false, codes, ℕ, List, [], ◌∷◌, ◌++◌, length, Some, None, Option, Ok, Err, Result}
@@ -21,8 +22,8 @@ use Rattle.season_log.specs.Words.{Word, PayloadMistake}
 use Rattle.season_replay.specs.declared.yards.Yard.{Yard}
 use Rattle.season_replay.specs.declared.yards.Yard.TheVariants.{Open, Sealed}
 use Rattle.log_replay.specs.declared.errors.LineError.{LineError}
-use Rattle.log_replay.specs.declared.errors.LineError.TheVariants.{Mistake as MistakeError, Io}
-use Rattle.log_replay.specs.Lines.{Writes}
+use Rattle.log_replay.specs.declared.errors.LineError.TheVariants.{Mistake as MistakeError, OutOfMemory, Unanswered}
+use Rattle.log_replay.specs.Outcomes.{Prints}
 
 abbrev pub OpensTo : {Pen C P : Type 0} → Meaning Pen C → ℕ → List P → Option (Yard C P Pen) → Result (Answer Pen C) Fault → Type 0
 OpensTo m b ps None r = (within b (length ps) ≡ false) × (r ≡ Err (fault_of Sizes))
@@ -44,13 +45,17 @@ module _ {P E : Type 0} (g : List ℕ → Result P E → Type 0) where
     pub first : Payloads before payloads
     pub mistake : PayloadMistake g conv word m
 
-  pub record OpenLine {Pen C : Type 0} (m : Meaning Pen C) (text : List ℕ → List Word → Result (Answer Pen C) Fault → Option (List ℕ)) (b : ℕ) (words arguments : List Word) (y : Option (Yard C P Pen)) (old new : Option (List ℕ)) : Type 0 where
+  pub record OpensYard {Pen C : Type 0} (m : Meaning Pen C) (b : ℕ) (words : List Word) (y : Option (Yard C P Pen)) (answer : Result (Answer Pen C) Fault) : Type 0 where
     pub payloads : List P
-    pub answer : Result (Answer Pen C) Fault
     pub stand : Payloads words payloads
     pub opens : OpensTo m b payloads y answer
-    pub written : Writes (text (codes "open") arguments answer) old new
+
+  pub record OpenLine {Pen C : Type 0} (m : Meaning Pen C) (text : List ℕ → List Word → Result (Answer Pen C) Fault → Option (List ℕ)) (b : ℕ) (words arguments : List Word) (y : Option (Yard C P Pen)) (p : Prints) : Type 0 where
+    pub answer : Result (Answer Pen C) Fault
+    pub opens : OpensYard m b words y answer
+    pub printed : p ≡ Some (text (codes "open") arguments answer)
 
   abbrev pub OpenMistake : (E → PayloadError → Type 0) → List Word → LineError → Type 0
   OpenMistake conv ws (MistakeError m) = NoPayload conv ws m
-  OpenMistake conv ws (Io e) = Unit {0}
+  OpenMistake conv ws OutOfMemory = Unit {0}
+  OpenMistake conv ws (Unanswered e) = ⊥

@@ -1,18 +1,20 @@
 ghost use Rattle.std.specs.Prelude.{◌≡◌};
-ghost use Rattle.log_replay.specs.Errors.{IsIo};
-ghost use Rattle.log_replay.specs.declared.errors.LineError.TheVariants.{Mistake as Told};
+ghost use Rattle.log_replay.specs.declared.errors.LineError.TheVariants.{Mistake as Told, OutOfMemory};
 
 use season_log::Mistake;
 use std::alloc::{AllocError, AllocFailed};
 use std::io;
 
-/// Why a log ends before its end.
+/// Why a line of a log is not answered.
 #[derive(Drop)]
 pub enum LineError<'a> {
-    /// The line is no call.
+    /// The line is no call. Nothing was carried out, and nothing was written.
     Mistake(Mistake<'a>),
-    /// The answer could not be written, or memory ran out.
-    Io(io::Error),
+    /// Memory ran out before the call. Nothing was carried out, and nothing was
+    /// written.
+    OutOfMemory,
+    /// The call was carried out, and its answer could not be written whole.
+    Unanswered(io::Error),
 }
 
 impl<'a> From<Mistake<'a>> for LineError<'a> {
@@ -23,26 +25,18 @@ impl<'a> From<Mistake<'a>> for LineError<'a> {
     }
 }
 
-impl From<io::Error> for LineError<'_> {
-    ghost from_gives = { λ _ error. IsIo error };
-
-    fn from(error: io::Error) -> Self {
-        LineError::Io(error)
-    }
-}
-
 impl From<AllocError> for LineError<'_> {
-    ghost from_gives = { λ _ error. IsIo error };
+    ghost from_gives = { λ _ error. error ≡ OutOfMemory };
 
-    fn from(error: AllocError) -> Self {
-        LineError::Io(io::Error::from(error))
+    fn from(_error: AllocError) -> Self {
+        LineError::OutOfMemory
     }
 }
 
 impl<T: Drop> From<AllocFailed<T>> for LineError<'_> {
-    ghost from_gives = { λ _ error. IsIo error };
+    ghost from_gives = { λ _ error. error ≡ OutOfMemory };
 
-    fn from(error: AllocFailed<T>) -> Self {
-        LineError::Io(io::Error::from(error))
+    fn from(_error: AllocFailed<T>) -> Self {
+        LineError::OutOfMemory
     }
 }

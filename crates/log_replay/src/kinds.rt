@@ -1,7 +1,8 @@
-ghost use Rattle.std.specs.Prelude.{IfOk, IfErr, OnOk};
-ghost use Rattle.log_replay.specs.Kinds.{AnyLine, AnyMistake, AnyOpenLine, AnyOpenMistake};
-ghost use Rattle.log_replay.specs.Lines.{line_text, Writes, Line, LineMistake};
-ghost use Rattle.log_replay.specs.Openings.{OpenLine, OpenMistake};
+ghost use Rattle.std.specs.Prelude.{◌≡◌, IfOk, IfErr, OnErr, OnOk};
+ghost use Rattle.log_replay.specs.Kinds.{AnyLine, AnyMistake, AnyOpenLine, AnyUnopened};
+ghost use Rattle.log_replay.specs.Lines.{line_text, Line, LineMistake};
+ghost use Rattle.log_replay.specs.Openings.{OpensYard, OpenLine, OpenMistake};
+ghost use Rattle.log_replay.specs.Outcomes.{Writes, Prints, Printed, Comes};
 
 use crate::errors::LineError;
 use clock::{Clock, Fault};
@@ -26,56 +27,76 @@ pub enum AnyYard {
     VectorTicket(Yard<VectorClock, Ticket>),
 }
 
+/// What an open leaves where it was carried out: the yard, or none after a
+/// refusal, and whether its answer could be written.
+pub type Opened<Y> = (Option<Y>, io::Result<()>);
+
 impl AnyYard {
     /// Opens the yard that the words after `open` ask for, and writes the answer.
-    /// There is none after a refusal.
+    /// Where that could not be carried out, nothing was written.
     pub fn open<'a, W: Write>(
         alloc: Global,
         arguments: &[&'a str],
         out: &mut W,
-    ) -> Result<Option<AnyYard>, LineError<'a>>
+    ) -> Result<Opened<AnyYard>, LineError<'a>>
         ensures opened { let trees = line_text ⟦<Fault as Display>⟧.output ⟦<TreePen as Display>⟧.output ⟦<TreeClock as Display>⟧.output in
             let vectors = line_text ⟦<Fault as Display>⟧.output ⟦<VectorPen as Display>⟧.output ⟦<VectorClock as Display>⟧.output in
-            IfOk result (λ y. AnyOpenLine trees vectors arguments.now y (W.contents out.old) (W.contents out.new)) }
-        ensures mistake { IfErr result (AnyOpenMistake arguments.now) }
+            IfOk result (λ x. (p : Prints) × AnyOpenLine trees vectors arguments.now x.0 p × OnOk x.1 (Printed p (W.contents out.old) (W.contents out.new))) }
+        ensures mistake { IfErr result (AnyUnopened arguments.now) }
+        ensures kept { OnErr result (W.contents out.new ≡ W.contents out.old) }
     {
         let asked = Opening::read(arguments)?;
         match (asked.kind, asked.payload) {
             (Kind::Tree, PayloadKind::Valve) => {
-                Ok(open(alloc, &asked, arguments, out)?.map(|yard| AnyYard::TreeValve(yard)))
+                let (yard, written) = open(alloc, &asked, arguments, out)?;
+                Ok((yard.map(|yard| AnyYard::TreeValve(yard)), written))
             }
             (Kind::Tree, PayloadKind::Ticket) => {
-                Ok(open(alloc, &asked, arguments, out)?.map(|yard| AnyYard::TreeTicket(yard)))
+                let (yard, written) = open(alloc, &asked, arguments, out)?;
+                Ok((yard.map(|yard| AnyYard::TreeTicket(yard)), written))
             }
             (Kind::Vector, PayloadKind::Valve) => {
-                Ok(open(alloc, &asked, arguments, out)?.map(|yard| AnyYard::VectorValve(yard)))
+                let (yard, written) = open(alloc, &asked, arguments, out)?;
+                Ok((yard.map(|yard| AnyYard::VectorValve(yard)), written))
             }
             (Kind::Vector, PayloadKind::Ticket) => {
-                Ok(open(alloc, &asked, arguments, out)?.map(|yard| AnyYard::VectorTicket(yard)))
+                let (yard, written) = open(alloc, &asked, arguments, out)?;
+                Ok((yard.map(|yard| AnyYard::VectorTicket(yard)), written))
             }
         }
     }
 
-    /// Carries out the call of this name, and writes the answer.
+    /// Carries out the call of this name, and writes the answer: the yard that
+    /// there is then, and what came of the line.
     pub fn answer<'a, W: Write>(
         self,
         name: &'a str,
         arguments: &[&'a str],
         out: &mut W,
-    ) -> Result<AnyYard, LineError<'a>>
-        ensures carried { let trees = line_text ⟦<Fault as Display>⟧.output ⟦<TreePen as Display>⟧.output ⟦<TreeClock as Display>⟧.output in
+    ) -> (AnyYard, Result<(), LineError<'a>>)
+        ensures { let trees = line_text ⟦<Fault as Display>⟧.output ⟦<TreePen as Display>⟧.output ⟦<TreeClock as Display>⟧.output in
             let vectors = line_text ⟦<Fault as Display>⟧.output ⟦<VectorPen as Display>⟧.output ⟦<VectorClock as Display>⟧.output in
-            IfOk result (λ z. AnyLine trees vectors self name.now arguments.now z (W.contents out.old) (W.contents out.new)) }
-        ensures mistake { IfErr result (AnyMistake self name.entry arguments.now) }
+            Comes (AnyMistake self name.entry arguments.now) (result.0 ≡ self) (AnyLine trees vectors self name.now arguments.now result.0)
+                result.1 (W.contents out.old) (W.contents out.new) }
     {
-        Ok(match self {
-            AnyYard::TreeValve(yard) => AnyYard::TreeValve(answer(yard, name, arguments, out)?),
-            AnyYard::TreeTicket(yard) => AnyYard::TreeTicket(answer(yard, name, arguments, out)?),
-            AnyYard::VectorValve(yard) => AnyYard::VectorValve(answer(yard, name, arguments, out)?),
-            AnyYard::VectorTicket(yard) => {
-                AnyYard::VectorTicket(answer(yard, name, arguments, out)?)
+        match self {
+            AnyYard::TreeValve(yard) => {
+                let (yard, done) = answer(yard, name, arguments, out);
+                (AnyYard::TreeValve(yard), done)
             }
-        })
+            AnyYard::TreeTicket(yard) => {
+                let (yard, done) = answer(yard, name, arguments, out);
+                (AnyYard::TreeTicket(yard), done)
+            }
+            AnyYard::VectorValve(yard) => {
+                let (yard, done) = answer(yard, name, arguments, out);
+                (AnyYard::VectorValve(yard), done)
+            }
+            AnyYard::VectorTicket(yard) => {
+                let (yard, done) = answer(yard, name, arguments, out);
+                (AnyYard::VectorTicket(yard), done)
+            }
+        }
     }
 }
 
@@ -84,12 +105,29 @@ fn open<'a, C: Clock + Display, P: Payload + FromStr, W: Write>(
     asked: &Opening<'a, '_>,
     arguments: &[&'a str],
     out: &mut W,
-) -> Result<Option<Yard<C, P>>, LineError<'a>>
+) -> Result<Opened<Yard<C, P>>, LineError<'a>>
 where
     C::Pen: Display,
     PayloadError: From<P::Err>,
     ensures opened { let text = line_text ⟦<Fault as Display>⟧.output C.Pen.output C.output in
-        IfOk result (λ y. OpenLine P.from_str_gives C.meaning text asked.now.berths asked.now.words.now arguments.now y (W.contents out.old) (W.contents out.new)) }
+        IfOk result (λ x. (p : Prints) × OpenLine P.from_str_gives C.meaning text asked.now.berths asked.now.words.now arguments.now x.0 p × OnOk x.1 (Printed p (W.contents out.old) (W.contents out.new))) }
+    ensures mistake { let conv = ⟦<PayloadError as From<P::Err>>⟧.from_gives in
+        IfErr result (OpenMistake P.from_str_gives conv asked.now.words.now) }
+    ensures kept { OnErr result (W.contents out.new ≡ W.contents out.old) }
+{
+    let (yard, answered) = open_season::<C, P>(alloc, asked)?;
+    let written = write_answer::<C, W>("open", arguments, &answered, out);
+    Ok((yard, written))
+}
+
+// The yard that an open leaves, and what it is answered.
+fn open_season<'a, C: Clock, P: Payload + FromStr>(
+    alloc: Global,
+    asked: &Opening<'a, '_>,
+) -> Result<(Option<Yard<C, P>>, Answered<C>), LineError<'a>>
+where
+    PayloadError: From<P::Err>,
+    ensures opened { IfOk result (λ x. OpensYard P.from_str_gives C.meaning asked.now.berths asked.now.words.now x.0 x.1) }
     ensures mistake { let conv = ⟦<PayloadError as From<P::Err>>⟧.from_gives in
         IfErr result (OpenMistake P.from_str_gives conv asked.now.words.now) }
 {
@@ -99,16 +137,11 @@ where
     }
     match Season::<_, C, P>::open(alloc, asked.berths, &payloads) {
         Ok(season) => {
-            write_answer::<C, W>("open", arguments, &Ok(Answer::Opened(season.sizes())), out)?;
-            Ok(Some(Yard::Open(season)))
+            let sizes = season.sizes();
+            Ok((Some(Yard::Open(season)), Ok(Answer::Opened(sizes))))
         }
-        Err(OpenError::Refused(fault)) => {
-            write_answer::<C, W>("open", arguments, &Err(fault), out)?;
-            Ok(None)
-        }
-        Err(OpenError::OutOfMemory) => {
-            Err(LineError::Io(io::Error::from(io::ErrorKind::OutOfMemory)))
-        }
+        Err(OpenError::Refused(fault)) => Ok((None, Err(fault))),
+        Err(OpenError::OutOfMemory) => Err(LineError::OutOfMemory),
     }
 }
 
@@ -117,19 +150,28 @@ fn answer<'a, C: Clock + Display, P: Payload + FromStr, W: Write>(
     name: &'a str,
     arguments: &[&'a str],
     out: &mut W,
-) -> Result<Yard<C, P>, LineError<'a>>
+) -> (Yard<C, P>, Result<(), LineError<'a>>)
 where
     C::Pen: Display,
     PayloadError: From<P::Err>,
-    ensures carried { let text = line_text ⟦<Fault as Display>⟧.output C.Pen.output C.output in
-        IfOk result (λ z. Line P.from_str_gives C.meaning P.same text yard name.now arguments.now z (W.contents out.old) (W.contents out.new)) }
-    ensures mistake { let conv = ⟦<PayloadError as From<P::Err>>⟧.from_gives in
-        IfErr result (LineMistake P.from_str_gives conv yard name.entry arguments.now) }
+    ensures { let text = line_text ⟦<Fault as Display>⟧.output C.Pen.output C.output in
+        let conv = ⟦<PayloadError as From<P::Err>>⟧.from_gives in
+        Comes (LineMistake P.from_str_gives conv yard name.entry arguments.now) (result.0 ≡ yard)
+            (Line P.from_str_gives C.meaning P.same text yard name.now arguments.now result.0)
+            result.1 (W.contents out.old) (W.contents out.new) }
 {
-    let call = Call::read(name, arguments)?;
-    let (yard, answered) = yard.carry_out(name, call)?;
-    write_answer(name, arguments, &answered, out)?;
-    Ok(yard)
+    let call = match Call::read(name, arguments) {
+        Ok(call) => call,
+        Err(mistake) => return (yard, Err(LineError::Mistake(mistake))),
+    };
+    let (yard, carried) = yard.carry_out(name, call);
+    match carried {
+        Ok(answered) => match write_answer(name, arguments, &answered, out) {
+            Ok(()) => (yard, Ok(())),
+            Err(error) => (yard, Err(LineError::Unanswered(error))),
+        },
+        Err(mistake) => (yard, Err(LineError::Mistake(mistake))),
+    }
 }
 
 // The words of the line, a colon, and the answer.

@@ -10,8 +10,10 @@
 
 mod errors;
 mod kinds;
+mod logs;
 mod replays;
 
 pub use errors::LineError;
-pub use kinds::AnyYard;
-pub use replays::{Replay, replay_log};
+pub use kinds::{AnyYard, Opened};
+pub use logs::{replay_lines, replay_log};
+pub use replays::Replay;

@@ -1,6 +1,8 @@
-ghost use Rattle.std.specs.Prelude.{◌≡◌, None, codes, IfOk, IfErr, OnErr, OnOk};
+ghost use Rattle.std.specs.Prelude.{◌≡◌, None, codes, IfOk};
 ghost use Rattle.std.specs.Str.{bytes_eq};
+ghost use Rattle.log_replay.specs.Kinds.{AnyOpenLine, AnyOpenMistake};
 ghost use Rattle.log_replay.specs.Lines.{line_text};
+ghost use Rattle.log_replay.specs.Outcomes.{Comes};
 ghost use Rattle.log_replay.specs.Replays.{Leaves, Ends, WordsLeave, WordsEnd, LineLeaves, LineEnds};
 ghost use Rattle.log_replay.specs.Words.{begins_remark, IsWords};
 
@@ -10,38 +12,10 @@ use clock::Fault;
 use season_log::without_yard;
 use std::alloc::{AllocFailed, Global};
 use std::fmt::Display;
-use std::io;
-use std::io::{BufRead, BufWriter, Write};
-use std::process::ExitCode;
+use std::io::Write;
+use std::marker::Model;
 use tree_clock::{TreeClock, TreePen};
 use vector_clock::{VectorClock, VectorPen};
-
-/// Replays the log, and stops at the first line that is no call.
-pub fn replay_log<R: BufRead + Drop>(
-    rt: &(impl Print + Eprint + AllocGlobal),
-    log: R,
-) -> io::Result<ExitCode> {
-    let alloc = rt.alloc();
-    let mut out = BufWriter::new(alloc, io::writer(rt))?;
-    let mut replay = Replay::new(alloc);
-    let mut number = 0u64;
-    for line in log.lines(alloc) {
-        number = number.saturating_add(1);
-        let stopped = match line {
-            Ok(line) => match replay.line(line.as_str(), &mut out) {
-                Ok(()) => continue,
-                Err(LineError::Io(error)) => return Err(error),
-                Err(LineError::Mistake(mistake)) => format!(in alloc; "{mistake}")?,
-            },
-            Err(error) => format!(in alloc; "{error}")?,
-        };
-        out.flush()?;
-        eprintln!(rt; "line {number}: {stopped}")?;
-        return Ok(ExitCode::FAILURE);
-    }
-    out.flush()?;
-    Ok(ExitCode::SUCCESS)
-}
 
 /// A log that is being replayed, line by line.
 #[derive(Drop)]
@@ -51,31 +25,44 @@ pub struct Replay {
     yard: Option<AnyYard>,
 }
 
+/// A clause sees a log that is being replayed as the yard of its latest open, if
+/// that was accepted.
+impl Model for Replay {
+    ghost use Rattle.std.specs.Prelude.{Option};
+    ghost use Rattle.log_replay.specs.declared.kinds.AnyYard.{AnyYard};
+
+    ghost Value = { Option AnyYard };
+
+    ghost view = { λ r. r.yard };
+}
+
 impl Replay {
     /// A log before its first line: there is no yard.
     pub fn new(alloc: Global) -> Replay
-        ensures { result.yard ≡ None }
+        ensures { result ≡ None }
     {
         Replay { alloc, yard: None }
     }
 
     /// Carries out a line and writes its answer. A blank line, and one whose
-    /// first word begins with `#`, asks for nothing.
+    /// first word begins with `#`, asks for nothing. After a line that is no
+    /// call, and where memory ran out before it, the yard is what it was and
+    /// nothing was written.
     pub fn line<'a, W: Write>(&mut self, line: &'a str, out: &mut W) -> Result<(), LineError<'a>>
-        ensures carried { let trees = line_text ⟦<Fault as Display>⟧.output ⟦<TreePen as Display>⟧.output ⟦<TreeClock as Display>⟧.output in
+        ensures { let trees = line_text ⟦<Fault as Display>⟧.output ⟦<TreePen as Display>⟧.output ⟦<TreeClock as Display>⟧.output in
             let vectors = line_text ⟦<Fault as Display>⟧.output ⟦<VectorPen as Display>⟧.output ⟦<VectorClock as Display>⟧.output in
-            OnOk result (LineLeaves trees vectors line.now self.old.yard self.new.yard (W.contents out.old) (W.contents out.new)) }
-        ensures mistake { IfErr result (LineEnds line.now self.old.yard) }
+            Comes (LineEnds line.now self.old) (self.new ≡ self.old) (LineLeaves trees vectors line.now self.old self.new)
+                result (W.contents out.old) (W.contents out.new) }
     {
         let words = words_of(self.alloc, line)?;
         self.words(words.as_slice(), out)
     }
 
     fn words<'a, W: Write>(&mut self, words: &[&'a str], out: &mut W) -> Result<(), LineError<'a>>
-        ensures carried { let trees = line_text ⟦<Fault as Display>⟧.output ⟦<TreePen as Display>⟧.output ⟦<TreeClock as Display>⟧.output in
+        ensures { let trees = line_text ⟦<Fault as Display>⟧.output ⟦<TreePen as Display>⟧.output ⟦<TreeClock as Display>⟧.output in
             let vectors = line_text ⟦<Fault as Display>⟧.output ⟦<VectorPen as Display>⟧.output ⟦<VectorClock as Display>⟧.output in
-            OnOk result (WordsLeave trees vectors words.now self.old.yard self.new.yard (W.contents out.old) (W.contents out.new)) }
-        ensures mistake { IfErr result (WordsEnd words.now self.old.yard) }
+            Comes (WordsEnd words.now self.old) (self.new ≡ self.old) (WordsLeave trees vectors words.now self.old self.new)
+                result (W.contents out.old) (W.contents out.new) }
     {
         match words {
             [] => Ok(()),
@@ -90,22 +77,40 @@ impl Replay {
         arguments: &[&'a str],
         out: &mut W,
     ) -> Result<(), LineError<'a>>
-        ensures carried { let trees = line_text ⟦<Fault as Display>⟧.output ⟦<TreePen as Display>⟧.output ⟦<TreeClock as Display>⟧.output in
+        ensures { let trees = line_text ⟦<Fault as Display>⟧.output ⟦<TreePen as Display>⟧.output ⟦<TreeClock as Display>⟧.output in
             let vectors = line_text ⟦<Fault as Display>⟧.output ⟦<VectorPen as Display>⟧.output ⟦<VectorClock as Display>⟧.output in
-            OnOk result (Leaves trees vectors (bytes_eq name.now (codes "open")) self.old.yard name.now arguments.now self.new.yard (W.contents out.old) (W.contents out.new)) }
-        ensures mistake { IfErr result (Ends (bytes_eq name.now (codes "open")) self.old.yard name.entry arguments.now) }
-        ensures ended { OnErr result (self.new.yard ≡ None) }
+            let is_open = bytes_eq name.now (codes "open") in
+            Comes (Ends is_open self.old name.entry arguments.now) (self.new ≡ self.old) (Leaves trees vectors is_open self.old name.now arguments.now self.new)
+                result (W.contents out.old) (W.contents out.new) }
     {
-        let yard = self.yard.take();
         if name == "open" {
-            self.yard = AnyYard::open(self.alloc, arguments, out)?;
-            return Ok(());
+            return self.open(arguments, out);
         }
-        let Some(yard) = yard else {
+        let Some(yard) = self.yard.take() else {
             return Err(LineError::Mistake(without_yard(name, arguments)));
         };
-        self.yard = Some(yard.answer(name, arguments, out)?);
-        Ok(())
+        let (yard, done) = yard.answer(name, arguments, out);
+        self.yard = Some(yard);
+        done
+    }
+
+    // What is opened stands in place of the yard before.
+    fn open<'a, W: Write>(
+        &mut self,
+        arguments: &[&'a str],
+        out: &mut W,
+    ) -> Result<(), LineError<'a>>
+        ensures { let trees = line_text ⟦<Fault as Display>⟧.output ⟦<TreePen as Display>⟧.output ⟦<TreeClock as Display>⟧.output in
+            let vectors = line_text ⟦<Fault as Display>⟧.output ⟦<VectorPen as Display>⟧.output ⟦<VectorClock as Display>⟧.output in
+            Comes (AnyOpenMistake arguments.now) (self.new ≡ self.old) (AnyOpenLine trees vectors arguments.now self.new)
+                result (W.contents out.old) (W.contents out.new) }
+    {
+        let (yard, written) = AnyYard::open(self.alloc, arguments, out)?;
+        self.yard = yard;
+        match written {
+            Ok(()) => Ok(()),
+            Err(error) => Err(LineError::Unanswered(error)),
+        }
     }
 }
 
