@@ -1,3 +1,4 @@
 mod Standing
 mod Taken
 mod Splitting
+mod Going

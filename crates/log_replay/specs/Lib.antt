@@ -4,3 +4,4 @@ pub mod Openings
 pub mod Kinds
 pub mod Words
 pub mod Replays
+pub mod Logs

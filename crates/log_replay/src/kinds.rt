@@ -77,7 +77,7 @@ impl AnyYard {
         ensures { let trees = line_text ⟦<Fault as Display>⟧.output ⟦<TreePen as Display>⟧.output ⟦<TreeClock as Display>⟧.output in
             let vectors = line_text ⟦<Fault as Display>⟧.output ⟦<VectorPen as Display>⟧.output ⟦<VectorClock as Display>⟧.output in
             Comes (AnyMistake self name.entry arguments.now) (result.0 ≡ self) (AnyLine trees vectors self name.now arguments.now result.0)
-                result.1 (W.contents out.old) (W.contents out.new) }
+            result.1 (W.contents out.old) (W.contents out.new) }
     {
         match self {
             AnyYard::TreeValve(yard) => {
@@ -157,8 +157,8 @@ where
     ensures { let text = line_text ⟦<Fault as Display>⟧.output C.Pen.output C.output in
         let conv = ⟦<PayloadError as From<P::Err>>⟧.from_gives in
         Comes (LineMistake P.from_str_gives conv yard name.entry arguments.now) (result.0 ≡ yard)
-            (Line P.from_str_gives C.meaning P.same text yard name.now arguments.now result.0)
-            result.1 (W.contents out.old) (W.contents out.new) }
+        (Line P.from_str_gives C.meaning P.same text yard name.now arguments.now result.0)
+        result.1 (W.contents out.old) (W.contents out.new) }
 {
     let call = match Call::read(name, arguments) {
         Ok(call) => call,

@@ -15,5 +15,5 @@ mod replays;
 
 pub use errors::LineError;
 pub use kinds::{AnyYard, Opened};
-pub use logs::{replay_lines, replay_log};
+pub use logs::replay_log;
 pub use replays::Replay;

@@ -1,19 +1,29 @@
+ghost use Rattle.std.specs.Prelude.{◌≡◌, IfOk};
+ghost use Rattle.std.specs.Option.{option_map};
+ghost use Rattle.std.specs.String.{string_bytes};
+ghost use Rattle.log_replay.specs.Lines.{line_text};
+ghost use Rattle.log_replay.specs.Logs.{told_text, Replays};
+
 use crate::errors::LineError;
 use crate::replays::Replay;
+use clock::Fault;
 use std::alloc::Global;
 use std::fmt::Display;
 use std::io;
 use std::io::{BufRead, BufWriter, Write};
 use std::process::ExitCode;
+use tree_clock::{TreeClock, TreePen};
+use vector_clock::{VectorClock, VectorPen};
 
-/// Replays the log, and stops at the first line that is no call.
+/// Replays the log to standard output, and stops at the first line that is no
+/// call: what is told of it goes to standard error, and the status is 1.
 pub fn replay_log<R: BufRead + Drop>(
     rt: &(impl Print + Eprint + AllocGlobal),
     log: R,
 ) -> io::Result<ExitCode> {
     let alloc = rt.alloc();
     let mut out = BufWriter::new(alloc, io::writer(rt))?;
-    let stopped = replay_lines(alloc, log, &mut out)?;
+    let stopped = Replay::new(alloc).lines(log, &mut out)?;
     out.flush()?;
     match stopped {
         None => Ok(ExitCode::SUCCESS),
@@ -24,35 +34,50 @@ pub fn replay_log<R: BufRead + Drop>(
     }
 }
 
-/// Carries out the lines of the log one after the other and writes their
-/// answers. Where a line is no call, or cannot be read, the log stops there, and
-/// what is told of it is answered: `line N: ` and what is wrong.
-pub fn replay_lines<R: BufRead + Drop, W: Write>(
-    alloc: Global,
-    log: R,
-    out: &mut W,
-) -> io::Result<Option<String>> {
-    let mut replay = Replay::new(alloc);
-    let mut number = 0u64;
-    for line in log.lines(alloc) {
-        number = number.saturating_add(1);
-        let line = match line {
-            Ok(line) => line,
-            Err(error) => return Ok(Some(told(alloc, number, &error)?)),
-        };
-        match replay.line(line.as_str(), out) {
-            Ok(()) => {}
-            Err(LineError::Mistake(mistake)) => return Ok(Some(told(alloc, number, &mistake)?)),
-            Err(LineError::OutOfMemory) => {
-                return Err(io::Error::from(io::ErrorKind::OutOfMemory));
+impl Replay {
+    /// Carries out the lines of a log one after the other and writes their
+    /// answers, up to the first that is no call, or cannot be read; the yard is
+    /// left as the lines before that one left it. What is told of it is answered,
+    /// as `line 3: no call is named 'prune'`; lines count from 1.
+    pub fn lines<R: BufRead + Drop, W: Write>(
+        &mut self,
+        log: R,
+        out: &mut W,
+    ) -> io::Result<Option<String>>
+        ensures { let trees = line_text ⟦<Fault as Display>⟧.output ⟦<TreePen as Display>⟧.output ⟦<TreeClock as Display>⟧.output in
+            let vectors = line_text ⟦<Fault as Display>⟧.output ⟦<VectorPen as Display>⟧.output ⟦<VectorClock as Display>⟧.output in
+            IfOk result (λ told. Replays trees vectors (R.remaining log) self.old self.new (option_map string_bytes told) (W.contents out.old) (W.contents out.new)) }
+    {
+        let alloc = self.alloc;
+        let mut number = 0u64;
+        for line in log.lines(alloc) {
+            number = number.saturating_add(1);
+            let line = match line {
+                Ok(line) => line,
+                Err(error) => {
+                    let what = format!(in alloc; "{error}")?;
+                    return Ok(Some(told(alloc, number, what.as_str())?));
+                }
+            };
+            match self.line(line.as_str(), out) {
+                Ok(()) => {}
+                Err(LineError::Mistake(mistake)) => {
+                    let what = format!(in alloc; "{mistake}")?;
+                    return Ok(Some(told(alloc, number, what.as_str())?));
+                }
+                Err(LineError::OutOfMemory) => {
+                    return Err(io::Error::from(io::ErrorKind::OutOfMemory));
+                }
+                Err(LineError::Unanswered(error)) => return Err(error),
             }
-            Err(LineError::Unanswered(error)) => return Err(error),
         }
+        Ok(None)
     }
-    Ok(None)
 }
 
 // What is told of the line of this number at which a log stops.
-fn told<D: Display>(alloc: Global, number: u64, what: &D) -> io::Result<String> {
+fn told(alloc: Global, number: u64, what: &str) -> io::Result<String>
+    ensures { IfOk result (λ text. string_bytes text ≡ told_text number what.now) }
+{
     Ok(format!(in alloc; "line {number}: {what}")?)
 }

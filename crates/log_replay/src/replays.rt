@@ -20,7 +20,7 @@ use vector_clock::{VectorClock, VectorPen};
 /// A log that is being replayed, line by line.
 #[derive(Drop)]
 pub struct Replay {
-    alloc: Global,
+    pub(crate) alloc: Global,
     // The yard of the latest open, if that was accepted.
     yard: Option<AnyYard>,
 }
@@ -52,7 +52,7 @@ impl Replay {
         ensures { let trees = line_text ⟦<Fault as Display>⟧.output ⟦<TreePen as Display>⟧.output ⟦<TreeClock as Display>⟧.output in
             let vectors = line_text ⟦<Fault as Display>⟧.output ⟦<VectorPen as Display>⟧.output ⟦<VectorClock as Display>⟧.output in
             Comes (LineEnds line.now self.old) (self.new ≡ self.old) (LineLeaves trees vectors line.now self.old self.new)
-                result (W.contents out.old) (W.contents out.new) }
+            result (W.contents out.old) (W.contents out.new) }
     {
         let words = words_of(self.alloc, line)?;
         self.words(words.as_slice(), out)
@@ -62,7 +62,7 @@ impl Replay {
         ensures { let trees = line_text ⟦<Fault as Display>⟧.output ⟦<TreePen as Display>⟧.output ⟦<TreeClock as Display>⟧.output in
             let vectors = line_text ⟦<Fault as Display>⟧.output ⟦<VectorPen as Display>⟧.output ⟦<VectorClock as Display>⟧.output in
             Comes (WordsEnd words.now self.old) (self.new ≡ self.old) (WordsLeave trees vectors words.now self.old self.new)
-                result (W.contents out.old) (W.contents out.new) }
+            result (W.contents out.old) (W.contents out.new) }
     {
         match words {
             [] => Ok(()),
@@ -81,7 +81,7 @@ impl Replay {
             let vectors = line_text ⟦<Fault as Display>⟧.output ⟦<VectorPen as Display>⟧.output ⟦<VectorClock as Display>⟧.output in
             let is_open = bytes_eq name.now (codes "open") in
             Comes (Ends is_open self.old name.entry arguments.now) (self.new ≡ self.old) (Leaves trees vectors is_open self.old name.now arguments.now self.new)
-                result (W.contents out.old) (W.contents out.new) }
+            result (W.contents out.old) (W.contents out.new) }
     {
         if name == "open" {
             return self.open(arguments, out);
@@ -103,7 +103,7 @@ impl Replay {
         ensures { let trees = line_text ⟦<Fault as Display>⟧.output ⟦<TreePen as Display>⟧.output ⟦<TreeClock as Display>⟧.output in
             let vectors = line_text ⟦<Fault as Display>⟧.output ⟦<VectorPen as Display>⟧.output ⟦<VectorClock as Display>⟧.output in
             Comes (AnyOpenMistake arguments.now) (self.new ≡ self.old) (AnyOpenLine trees vectors arguments.now self.new)
-                result (W.contents out.old) (W.contents out.new) }
+            result (W.contents out.old) (W.contents out.new) }
     {
         let (yard, written) = AnyYard::open(self.alloc, arguments, out)?;
         self.yard = yard;
