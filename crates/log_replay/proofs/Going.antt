@@ -1,7 +1,7 @@
 -- A log that is being replayed, line by line.
 --
 -- Going   the lines so far were carried out, from the first yard to this one; the rest is still to be read, and so many lines are counted
-use Rattle.std.proofs.Common.{◌≡◌, ◌+◌, ◌-◌, ◌^◌, ◌<◌, min, ℕ, List, [], ◌∷◌, ◌++◌, length, Some, None, Option, Ok, Result, IfSome, IfOk, refl, sym, ap, ◌∙◌, subst, arith, length-append}
+use Rattle.std.proofs.Common.{◌≡◌, ◌+◌, ◌-◌, ◌^◌, ◌<◌, min, ℕ, List, [], ◌∷◌, ◌++◌, length, Some, None, Option, Ok, Result, IfSome, IfOk, refl, sym, ap, ◌∙◌, subst, inl, inr, arith, length-append}
 use Rattle.std.specs.Io.BufRead.{first_line, drop_through, DropsThrough}
 use Rattle.std.specs.Io.KnownBytes.{IsAtEnd}
 use Rattle.clock.specs.declared.faults.Fault.{Fault}
@@ -17,7 +17,7 @@ use Rattle.log_replay.specs.declared.kinds.AnyYard.{AnyYard}
 use Rattle.log_replay.specs.Lines.{line_text}
 use Rattle.log_replay.specs.Outcomes.{Prints, Printed}
 use Rattle.log_replay.specs.Replays.{LineLeaves, LineEnds}
-use Rattle.log_replay.specs.Logs.{LinesThen, Runs, line_number, told_text, Ended, Stopped, Unread}
+use Rattle.log_replay.specs.Logs.{LinesThen, Runs, line_number, told_text, Ended, Stopped, Unread, Cut}
 
 -- what a line prints at each clock kind
 abbrev pub tree_lines : List ℕ → List Word → Result (Answer TreePen TreeClock) Fault → Option (List ℕ)
@@ -118,3 +118,11 @@ module _ (tree_text : List ℕ → List Word → Result (Answer TreePen TreeCloc
     ends = subst (λ (w : Option AnyYard). LineEnds l w m) (sym stays) ends;
     is = is ∙ ap (λ i. told_text i (mistake_text m)) (number_is first text rest y n old mid k g e);
   }
+
+  -- memory ran out, and nothing more was carried out
+  pub cut_short : (first : Option AnyYard) (text rest : Option (List ℕ)) (y : Option AnyYard) (n : ℕ) (old mid : Option (List ℕ)) (z : Option AnyYard) (new : Option (List ℕ)) → Going first text rest y n old mid → z ≡ y → new ≡ mid → Cut tree_text vector_text text first z old new
+  cut_short first text rest y n old mid z new g stays nothing = record { lines = g.lines; yard = y; answered = mid; begins = so_far text rest g.lines g.reads; run = g.run; halts = inl (stays, nothing) }
+
+  -- a line was carried out, and its answer was not written whole
+  pub cut_off : (first : Option AnyYard) (text rest : Option (List ℕ)) (y : Option AnyYard) (n : ℕ) (old mid : Option (List ℕ)) (l : List ℕ) (z : Option AnyYard) (new printed : Option (List ℕ)) → Going first text rest y n old mid → LineLeaves tree_text vector_text l y z (Some printed) → Cut tree_text vector_text text first z old new
+  cut_off first text rest y n old mid l z new printed g leaves = record { lines = g.lines; yard = y; answered = mid; begins = so_far text rest g.lines g.reads; run = g.run; halts = inr (l, printed, leaves) }

@@ -7,6 +7,8 @@
 -- Ended                    each line of the log was carried out
 -- Stopped told             each line before some line was carried out; that line is no call, which is what is told, with its number
 -- Unread told              each line before some line was carried out; that line could not be read, which is what is told, with its number
+-- Cut                      each line before some place was carried out and answered; there memory ran out, or a line was carried out and its answer was
+--                          not written whole
 -- Replays told             what comes of a log of which this is told, or nothing
 --
 -- `text` is the text of the log, where it is known. The log finds the yard y and leaves the yard z; `old` and `new` are what is known of
@@ -63,6 +65,14 @@ module _ (tree_text : List ℕ → List Word → Result (Answer TreePen TreeCloc
       pub begins : IfSome text (λ t. (rest : List ℕ) × LinesThen t lines rest)
       pub run : Runs y lines z old new
       pub is : told ≡ told_text (line_number (length lines)) what
+
+    pub record Cut (old new : Option (List ℕ)) : Type 0 where
+      pub lines : List (List ℕ)
+      pub yard : Option AnyYard
+      pub answered : Option (List ℕ)
+      pub begins : IfSome text (λ t. (rest : List ℕ) × LinesThen t lines rest)
+      pub run : Runs y lines yard old answered
+      pub halts : ((z ≡ yard) × (new ≡ answered)) ⊎ ((line : List ℕ) × (printed : Option (List ℕ)) × LineLeaves tree_text vector_text line yard z (Some printed))
 
     abbrev pub Replays : Option (List ℕ) → Option (List ℕ) → Option (List ℕ) → Type 0
     Replays None old new = Ended old new

@@ -37,6 +37,6 @@ impl<T: Drop> From<AllocFailed<T>> for LineError<'_> {
     ghost from_gives = { λ _ error. error ≡ OutOfMemory };
 
     fn from(_error: AllocFailed<T>) -> Self {
-        LineError::OutOfMemory
+        LineError::from(AllocError)
     }
 }

@@ -1,8 +1,8 @@
-ghost use Rattle.std.specs.Prelude.{◌≡◌, IfOk};
+ghost use Rattle.std.specs.Prelude.{◌≡◌, IfOk, OnErr};
 ghost use Rattle.std.specs.Option.{option_map};
 ghost use Rattle.std.specs.String.{string_bytes};
 ghost use Rattle.log_replay.specs.Lines.{line_text};
-ghost use Rattle.log_replay.specs.Logs.{told_text, Replays};
+ghost use Rattle.log_replay.specs.Logs.{told_text, Replays, Cut};
 
 use crate::errors::LineError;
 use crate::replays::Replay;
@@ -44,9 +44,12 @@ impl Replay {
         log: R,
         out: &mut W,
     ) -> io::Result<Option<String>>
-        ensures { let trees = line_text ⟦<Fault as Display>⟧.output ⟦<TreePen as Display>⟧.output ⟦<TreeClock as Display>⟧.output in
+        ensures replays { let trees = line_text ⟦<Fault as Display>⟧.output ⟦<TreePen as Display>⟧.output ⟦<TreeClock as Display>⟧.output in
             let vectors = line_text ⟦<Fault as Display>⟧.output ⟦<VectorPen as Display>⟧.output ⟦<VectorClock as Display>⟧.output in
             IfOk result (λ told. Replays trees vectors (R.remaining log) self.old self.new (option_map string_bytes told) (W.contents out.old) (W.contents out.new)) }
+        ensures cut { let trees = line_text ⟦<Fault as Display>⟧.output ⟦<TreePen as Display>⟧.output ⟦<TreeClock as Display>⟧.output in
+            let vectors = line_text ⟦<Fault as Display>⟧.output ⟦<VectorPen as Display>⟧.output ⟦<VectorClock as Display>⟧.output in
+            OnErr result (Cut trees vectors (R.remaining log) self.old self.new (W.contents out.old) (W.contents out.new)) }
     {
         let alloc = self.alloc;
         let mut number = 0u64;
