@@ -2,53 +2,134 @@ use log_replay::{LineError, Replay};
 use std::io;
 use std::test::Fail;
 
-// What a log is answered, with the mistake that ends it, if one does.
+// What a log is answered, and then what is told of the line at which it stops, if it does.
 fn answers(rt: &HostRuntime, log: &str) -> io::Result<Vec<u8>> {
     let mut out = Vec::new(rt.alloc());
     let mut replay = Replay::new(rt.alloc());
-    for line in log.lines() {
-        match replay.line(line, &mut out) {
-            Ok(()) => {}
-            Err(LineError::Mistake(mistake)) => {
-                let text = format!(in rt.alloc(); "{mistake}\n")?;
-                out.extend_from_slice(text.as_bytes())?;
-                break;
-            }
-            Err(LineError::Io(error)) => return Err(error),
-        }
+    if let Some(told) = replay.lines(log.as_bytes(), &mut out)? {
+        out.extend_from_slice(told.as_bytes())?;
+        out.push(b'\n')?;
     }
     Ok(out)
 }
 
-// The answers before the line stay, and nothing after it is carried out.
+// The answers before the line stay, nothing after it is carried out, and it is told with its number.
 #[test]
 fn a_line_that_is_no_call_ends_the_log(rt: HostRuntime) -> Result<(), Fail> {
     let logs = [
         (
             "# a remark\n\n  open   tree valve 1\tshut \nfork 0 0\nprune 0\ndrop 0",
-            "open tree valve 1 shut: ok 1 berths 1 files\nfork 0 0: refused 4 berth 0\nno call is named 'prune'\n",
+            "open tree valve 1 shut: ok 1 berths 1 files\nfork 0 0: refused 4 berth 0\nline 5: no call is named 'prune'\n",
         ),
-        ("prune 0", "no call is named 'prune'\n"),
+        ("prune 0", "line 1: no call is named 'prune'\n"),
+        ("\r\n\r\nprune 0\r\n", "line 3: no call is named 'prune'\n"),
         (
             "judge 0 0 0",
-            "'judge' needs a yard: no open stands before it, or that was refused\n",
+            "line 1: 'judge' needs a yard: no open stands before it, or that was refused\n",
         ),
         (
             "open vector valve 1 shut\nopen vector valve 17 shut\nshow 0 0",
-            "open vector valve 1 shut: ok 1 berths 1 files\nopen vector valve 17 shut: refused 1\n'show' needs a yard: no open stands before it, or that was refused\n",
+            "open vector valve 1 shut: ok 1 berths 1 files\nopen vector valve 17 shut: refused 1\nline 3: 'show' needs a yard: no open stands before it, or that was refused\n",
         ),
         (
             "open tree valve 1 shut\nseal\njudge 0 0 0\nedit 0 0 open",
-            "open tree valve 1 shut: ok 1 berths 1 files\nseal: ok\njudge 0 0 0: equal\n'edit' after seal: a sealed yard answers only judge, report and show\n",
+            "open tree valve 1 shut: ok 1 berths 1 files\nseal: ok\njudge 0 0 0: equal\nline 4: 'edit' after seal: a sealed yard answers only judge, report and show\n",
         ),
         (
             "open tree valve 1 shut\nedit 0 0 part:100",
-            "open tree valve 1 shut: ok 1 berths 1 files\n'part:100' is no valve: a part is 1 to 99 percent\n",
+            "open tree valve 1 shut: ok 1 berths 1 files\nline 2: 'part:100' is no valve: a part is 1 to 99 percent\n",
         ),
+        (
+            "open tree valve 1 shut\nshow 0 0",
+            "open tree valve 1 shut: ok 1 berths 1 files\nshow 0 0: 1 0\n",
+        ),
+        ("", ""),
     ];
     for (log, want) in logs {
         assert_eq!(rt; answers(&rt, log)?.as_slice(), want.as_bytes(), "at {log}");
     }
+    Ok(())
+}
+
+// A line that is no text is told with its number too.
+#[test]
+fn a_line_that_cannot_be_read_ends_the_log(rt: HostRuntime) -> Result<(), Fail> {
+    let log = b"open tree valve 1 shut\n\xff\xfe\nfork 0 0\n";
+    let mut out = Vec::new(rt.alloc());
+    let told = Replay::new(rt.alloc()).lines(log.as_slice(), &mut out)?;
+    assert_eq!(rt;
+        out.as_slice(),
+        b"open tree valve 1 shut: ok 1 berths 1 files\n".as_slice()
+    );
+    assert!(rt; told.is_some_and(|told| told.as_str().starts_with("line 2: ")));
+    Ok(())
+}
+
+// Whoever goes on after a line that is no call has the yard that there was.
+#[test]
+fn a_wrong_line_keeps_the_yard(rt: HostRuntime) -> Result<(), Fail> {
+    let wrong = [
+        "prune 0",
+        "edit 0 0",
+        "edit 0 x open",
+        "edit 0 0 part:100",
+        "settle 0 1 0 lid",
+        "open",
+        "open pear valve 2 shut",
+        "open tree lid 2 shut",
+        "open tree valve x shut",
+        "open vector valve 2 shut lid",
+    ];
+    for kind in ["open tree valve 2 shut", "open vector valve 2 shut"] {
+        let mut out = Vec::new(rt.alloc());
+        let mut replay = Replay::new(rt.alloc());
+        for line in [kind, "fork 0 1", "edit 1 0 open"] {
+            assert!(rt; replay.line(line, &mut out).is_ok());
+        }
+        out.clear();
+        for line in wrong {
+            assert!(rt;
+                matches!(replay.line(line, &mut out), Err(LineError::Mistake(_))),
+                "at {line}"
+            );
+        }
+        assert!(rt; out.is_empty());
+        assert!(rt; replay.line("report 0 1", &mut out).is_ok());
+        assert!(rt; replay.line("seal", &mut out).is_ok());
+        assert!(rt;
+            matches!(
+                replay.line("fork 0 1", &mut out),
+                Err(LineError::Mistake(_))
+            )
+        );
+        assert!(rt; replay.line("judge 1 0 0", &mut out).is_ok());
+        assert_eq!(rt;
+            out.as_slice(),
+            b"report 0 1: 1 | equal 0 stale 1 ahead 0 conflict 0 twins 0\nseal: ok\njudge 1 0 0: ahead\n".as_slice()
+        );
+    }
+    Ok(())
+}
+
+// A call whose answer finds no room is carried out all the same.
+#[test]
+fn an_answer_that_cannot_be_written_is_told(rt: HostRuntime) -> Result<(), Fail> {
+    let mut out = Vec::new(rt.alloc());
+    let mut replay = Replay::new(rt.alloc());
+    for line in ["open tree valve 2 shut", "fork 0 1"] {
+        assert!(rt; replay.line(line, &mut out).is_ok());
+    }
+    let mut room = [0u8; 7];
+    let mut short = room.as_mut_slice();
+    assert!(rt;
+        matches!(
+            replay.line("edit 0 0 open", &mut short),
+            Err(LineError::Unanswered(_))
+        )
+    );
+    out.clear();
+    assert!(rt; replay.line("judge 0 1 0", &mut out).is_ok());
+    assert_eq!(rt; out.as_slice(), b"judge 0 1 0: ahead\n".as_slice());
     Ok(())
 }
 
