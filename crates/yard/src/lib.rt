@@ -14,10 +14,19 @@
 //! let verdict = judge::<SealedCard, K, P>(&card, &berths, &copies, 0, 1, 0)?;
 //! ```
 //!
-//! Each contract has the same clauses: `made`, the pens and clocks of the tables
-//! are well made, before and after; `result`, the answer, the tables and the
-//! buffer are exactly the documented ones; `history`, whatever calls led to
-//! these tables, the verdicts speak of the edits behind the copies.
+//! What the contracts say:
+//!
+//! - `result`, of every call but `seal`: for every input, refused too, the answer,
+//!   the tables and the buffer are exactly the documented ones.
+//! - `made`: the pens and clocks of the tables are well made. Every call but `open`
+//!   and `seal` asks it of the tables that it is lent, and nothing else. The calls
+//!   that change a table ensure it again, `open` where it is accepted; `judge` and
+//!   `report` change none, and have no such clause.
+//! - `history`, of every call but `seal`: whatever calls led to the tables as they
+//!   were lent, the law of histories holds of them, of the call and of what it
+//!   leaves, so that each verdict that it gives or uses compares the edits behind
+//!   two copies. That of `open` speaks of the yard that it leaves.
+//! - `seal` has one clause, with no name: its card has the sizes of the one given.
 
 #![tactic(auto)]
 
