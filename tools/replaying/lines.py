@@ -42,7 +42,6 @@ def line(state, words):
     """The answer to a line; state holds the yard and the reader of payloads."""
     name, rest = words[0], words[1:]
     if name == "open":
-        state.clear()
         if len(rest) < 3:
             raise Mistake
         kind = {"tree": Trees, "vector": Vectors}.get(rest[0])
@@ -50,6 +49,7 @@ def line(state, words):
         if not kind or not read:
             raise Mistake
         berths, payloads = number(rest[2]), [read(word) for word in rest[3:]]
+        state.clear()
         yard = Yard(kind, berths, payloads)
         state.update(yard=yard, read=read)
         return f"ok {berths} berths {len(payloads)} files"

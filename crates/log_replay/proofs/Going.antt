@@ -1,9 +1,12 @@
 -- A log that is being replayed, line by line.
 --
 -- Going   the lines so far were carried out, from the first yard to this one; the rest is still to be read, and so many lines are counted
-use Rattle.std.proofs.Common.{◌≡◌, ◌+◌, ◌-◌, ◌^◌, ◌<◌, min, ℕ, List, [], ◌∷◌, ◌++◌, length, Some, None, Option, Ok, Result, IfSome, IfOk, refl, sym, ap, ◌∙◌, subst, inl, inr, arith, length-append}
+use Rattle.std.proofs.Common.{◌≡◌, ◌+◌, ◌-◌, ◌^◌, ◌<◌, min, ℕ, List, [], ◌∷◌, ◌++◌, length, Some, None, Option, Ok, Err, Result, IfSome, IfOk, IfErr, IsErrAnd, refl, sym, ap, ◌∙◌, subst, inl, inr, arith, length-append}
 use Rattle.std.specs.Io.BufRead.{first_line, drop_through, DropsThrough}
 use Rattle.std.specs.Io.KnownBytes.{IsAtEnd}
+use Rattle.std.specs.IoError.{error_kind}
+use Rattle.std.specs.declared.io.Error.{Error}
+use Rattle.std.specs.declared.io.ErrorKind.TheVariants.{OutOfMemory}
 use Rattle.clock.specs.declared.faults.Fault.{Fault}
 use Rattle.tree_clock.specs.declared.clocks.TreeClock.{TreeClock}
 use Rattle.tree_clock.specs.declared.pens.TreePen.{TreePen}
@@ -17,7 +20,7 @@ use Rattle.log_replay.specs.declared.kinds.AnyYard.{AnyYard}
 use Rattle.log_replay.specs.Lines.{line_text}
 use Rattle.log_replay.specs.Outcomes.{Prints, Printed}
 use Rattle.log_replay.specs.Replays.{LineLeaves, LineEnds}
-use Rattle.log_replay.specs.Logs.{LinesThen, Runs, line_number, told_text, Ended, Stopped, Unread, Cut}
+use Rattle.log_replay.specs.Logs.{LinesThen, Next, Runs, line_number, told_text, Ended, Stopped, Unread, Cut}
 
 -- what a line prints at each clock kind
 abbrev pub tree_lines : List ℕ → List Word → Result (Answer TreePen TreeClock) Fault → Option (List ℕ)
@@ -25,6 +28,11 @@ tree_lines = line_text (Rattle.clock.specs.contracts.faults.FaultDisplay.TheImpl
 
 abbrev pub vector_lines : List ℕ → List Word → Result (Answer (Names 16) (Counts 16)) Fault → Option (List ℕ)
 vector_lines = line_text (Rattle.clock.specs.contracts.faults.FaultDisplay.TheImpl.ghosts).output (Rattle.vector_clock.specs.contracts.pens.NamesDisplay.TheImpl.ghosts (denote.Param.number 16)).output (Rattle.vector_clock.specs.contracts.clocks.CountsDisplay.TheImpl.ghosts (denote.Param.number 16)).output
+
+-- what holds of any want of memory holds of the error that a call ended in
+pub out_of_memory : {X : Type 0} (r : Result X Error) (fact : Error → Type 0) → IsErrAnd r (λ e. error_kind e ≡ OutOfMemory) → ((e : Error) → error_kind e ≡ OutOfMemory → fact e) → IfErr r fact
+out_of_memory (Ok x) fact h holds = tt
+out_of_memory (Err e) fact h holds = holds e h
 
 lines_more : (text : List ℕ) (ls : List (List ℕ)) (rest l : List ℕ) → LinesThen text ls rest → 0 < length rest → l ≡ first_line rest → LinesThen text (ls ++ l ∷ []) (drop_through 10 rest)
 lines_more text [] rest l e some is = subst (λ (t : List ℕ). LinesThen t (l ∷ []) (drop_through 10 rest)) (sym e) (some, is, refl)
@@ -57,7 +65,7 @@ module _ (tree_text : List ℕ → List Word → Result (Answer TreePen TreeCloc
   Read rest l rest' = IfSome rest (λ xs. (0 < length xs) × (l ≡ first_line xs)) × DropsThrough rest rest' 10
 
   -- and is the next of the text
-  pub next_line : (text rest : Option (List ℕ)) (l : List ℕ) (rest' : Option (List ℕ)) (ls : List (List ℕ)) → Read rest l rest' → IfSome text (λ t. (r : List ℕ) × (rest ≡ Some r) × LinesThen t ls r) → IfSome text (λ t. (r : List ℕ) × LinesThen t ls r × (0 < length r) × (l ≡ first_line r))
+  next_line : (text rest : Option (List ℕ)) (l : List ℕ) (rest' : Option (List ℕ)) (ls : List (List ℕ)) → Read rest l rest' → IfSome text (λ t. (r : List ℕ) × (rest ≡ Some r) × LinesThen t ls r) → Next text ls l
   next_line (Some t) rest l rest' ls read s =
       let q = subst (λ (o : Option (List ℕ)). Read o l rest') s.1 read in
       (s.0, s.2, q.0.0, q.0.1)
@@ -113,16 +121,16 @@ module _ (tree_text : List ℕ → List Word → Result (Answer TreePen TreeCloc
     lines = g.lines;
     line = l;
     mistake = m;
-    begins = next_line text rest l rest' g.lines read g.reads;
+    next = next_line text rest l rest' g.lines read g.reads;
     run = subst (λ (w : Option AnyYard). Runs tree_text vector_text first g.lines w old new) (sym stays) (subst (λ (o : Option (List ℕ)). Runs tree_text vector_text first g.lines y old o) (sym nothing) g.run);
     ends = subst (λ (w : Option AnyYard). LineEnds l w m) (sym stays) ends;
     is = is ∙ ap (λ i. told_text i (mistake_text m)) (number_is first text rest y n old mid k g e);
   }
 
   -- memory ran out, and nothing more was carried out
-  pub cut_short : (first : Option AnyYard) (text rest : Option (List ℕ)) (y : Option AnyYard) (n : ℕ) (old mid : Option (List ℕ)) (z : Option AnyYard) (new : Option (List ℕ)) → Going first text rest y n old mid → z ≡ y → new ≡ mid → Cut tree_text vector_text text first z old new
-  cut_short first text rest y n old mid z new g stays nothing = record { lines = g.lines; yard = y; answered = mid; begins = so_far text rest g.lines g.reads; run = g.run; halts = inl (stays, nothing) }
+  pub cut_short : (first : Option AnyYard) (text rest : Option (List ℕ)) (y : Option AnyYard) (n : ℕ) (old mid : Option (List ℕ)) (z : Option AnyYard) (new : Option (List ℕ)) (error : Error) → Going first text rest y n old mid → error_kind error ≡ OutOfMemory → z ≡ y → new ≡ mid → Cut tree_text vector_text text first z error old new
+  cut_short first text rest y n old mid z new error g kind stays nothing = record { lines = g.lines; yard = y; answered = mid; begins = so_far text rest g.lines g.reads; run = g.run; halts = inl (kind, stays, nothing) }
 
   -- a line was carried out, and its answer was not written whole
-  pub cut_off : (first : Option AnyYard) (text rest : Option (List ℕ)) (y : Option AnyYard) (n : ℕ) (old mid : Option (List ℕ)) (l : List ℕ) (z : Option AnyYard) (new printed : Option (List ℕ)) → Going first text rest y n old mid → LineLeaves tree_text vector_text l y z (Some printed) → Cut tree_text vector_text text first z old new
-  cut_off first text rest y n old mid l z new printed g leaves = record { lines = g.lines; yard = y; answered = mid; begins = so_far text rest g.lines g.reads; run = g.run; halts = inr (l, printed, leaves) }
+  pub cut_off : (first : Option AnyYard) (text rest : Option (List ℕ)) (y : Option AnyYard) (n : ℕ) (old mid : Option (List ℕ)) (l : List ℕ) (rest' : Option (List ℕ)) (z : Option AnyYard) (new printed : Option (List ℕ)) (error : Error) → Going first text rest y n old mid → Read rest l rest' → LineLeaves tree_text vector_text l y z (Some printed) → Cut tree_text vector_text text first z error old new
+  cut_off first text rest y n old mid l rest' z new printed error g read leaves = record { lines = g.lines; yard = y; answered = mid; begins = so_far text rest g.lines g.reads; run = g.run; halts = inr (l, printed, next_line text rest l rest' g.lines read g.reads, leaves) }

@@ -7,8 +7,9 @@
 -- Ended                    each line of the log was carried out
 -- Stopped told             each line before some line was carried out; that line is no call, which is what is told, with its number
 -- Unread told              each line before some line was carried out; that line could not be read, which is what is told, with its number
--- Cut                      each line before some place was carried out and answered; there memory ran out, or a line was carried out and its answer was
---                          not written whole
+-- Next ls l                the line l is the one after the lines ls
+-- Cut error                each line before some line was carried out and answered; there memory ran out, as the error says, and nothing more was
+--                          done, or that line was carried out and its answer could not be written whole
 -- Replays told             what comes of a log of which this is told, or nothing
 --
 -- `text` is the text of the log, where it is known. The log finds the yard y and leaves the yard z; `old` and `new` are what is known of
@@ -16,6 +17,9 @@
 use Rattle.std.specs.Prelude.{◌≡◌, ◌⊎◌, ◌+◌, ◌-◌, ◌^◌, ◌<◌, min, codes, ℕ, List, [], ◌∷◌, ◌++◌, length, Some, None, Option, Result, IfSome}
 use Rattle.std.specs.Fmt.{decimal}
 use Rattle.std.specs.Io.BufRead.{first_line, drop_through}
+use Rattle.std.specs.IoError.{error_kind}
+use Rattle.std.specs.declared.io.Error.{Error}
+use Rattle.std.specs.declared.io.ErrorKind.TheVariants.{OutOfMemory}
 use Rattle.clock.specs.declared.faults.Fault.{Fault}
 use Rattle.tree_clock.specs.declared.clocks.TreeClock.{TreeClock}
 use Rattle.tree_clock.specs.declared.pens.TreePen.{TreePen}
@@ -32,6 +36,9 @@ use Rattle.log_replay.specs.Replays.{LineLeaves, LineEnds}
 abbrev pub LinesThen : List ℕ → List (List ℕ) → List ℕ → Type 0
 LinesThen text [] rest = text ≡ rest
 LinesThen text (l ∷ ls) rest = (0 < length text) × (l ≡ first_line text) × LinesThen (drop_through 10 text) ls rest
+
+abbrev pub Next : Option (List ℕ) → List (List ℕ) → List ℕ → Type 0
+Next text ls l = IfSome text (λ t. (rest : List ℕ) × LinesThen t ls rest × (0 < length rest) × (l ≡ first_line rest))
 
 abbrev pub line_number : ℕ → ℕ
 line_number n = min (n + 1) (2 ^ 64 - 1)
@@ -54,7 +61,7 @@ module _ (tree_text : List ℕ → List Word → Result (Answer TreePen TreeCloc
       pub lines : List (List ℕ)
       pub line : List ℕ
       pub mistake : Mistake
-      pub begins : IfSome text (λ t. (rest : List ℕ) × LinesThen t lines rest × (0 < length rest) × (line ≡ first_line rest))
+      pub next : Next text lines line
       pub run : Runs y lines z old new
       pub ends : LineEnds line z mistake
       pub is : told ≡ told_text (line_number (length lines)) (mistake_text mistake)
@@ -66,13 +73,14 @@ module _ (tree_text : List ℕ → List Word → Result (Answer TreePen TreeCloc
       pub run : Runs y lines z old new
       pub is : told ≡ told_text (line_number (length lines)) what
 
-    pub record Cut (old new : Option (List ℕ)) : Type 0 where
+    pub record Cut (error : Error) (old new : Option (List ℕ)) : Type 0 where
       pub lines : List (List ℕ)
       pub yard : Option AnyYard
       pub answered : Option (List ℕ)
       pub begins : IfSome text (λ t. (rest : List ℕ) × LinesThen t lines rest)
       pub run : Runs y lines yard old answered
-      pub halts : ((z ≡ yard) × (new ≡ answered)) ⊎ ((line : List ℕ) × (printed : Option (List ℕ)) × LineLeaves tree_text vector_text line yard z (Some printed))
+      pub halts : ((error_kind error ≡ OutOfMemory) × (z ≡ yard) × (new ≡ answered)) ⊎
+          ((line : List ℕ) × (printed : Option (List ℕ)) × Next text lines line × LineLeaves tree_text vector_text line yard z (Some printed))
 
     abbrev pub Replays : Option (List ℕ) → Option (List ℕ) → Option (List ℕ) → Type 0
     Replays None old new = Ended old new

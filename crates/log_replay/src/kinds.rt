@@ -39,9 +39,12 @@ impl AnyYard {
         arguments: &[&'a str],
         out: &mut W,
     ) -> Result<Opened<AnyYard>, LineError<'a>>
-        ensures opened { let trees = line_text ⟦<Fault as Display>⟧.output ⟦<TreePen as Display>⟧.output ⟦<TreeClock as Display>⟧.output in
-            let vectors = line_text ⟦<Fault as Display>⟧.output ⟦<VectorPen as Display>⟧.output ⟦<VectorClock as Display>⟧.output in
-            IfOk result (λ x. (p : Prints) × AnyOpenLine trees vectors arguments.now x.0 p × OnOk x.1 (Printed p (W.contents out.old) (W.contents out.new))) }
+        ensures opened { let trees = line_text ⟦<Fault as Display>⟧.output
+            ⟦<TreePen as Display>⟧.output ⟦<TreeClock as Display>⟧.output in
+            let vectors = line_text ⟦<Fault as Display>⟧.output
+            ⟦<VectorPen as Display>⟧.output ⟦<VectorClock as Display>⟧.output in
+            IfOk result (λ x. (p : Prints) × AnyOpenLine trees vectors arguments.now x.0 p
+            × OnOk x.1 (Printed p (W.contents out.old) (W.contents out.new))) }
         ensures mistake { IfErr result (AnyUnopened arguments.now) }
         ensures kept { OnErr result (W.contents out.new ≡ W.contents out.old) }
     {
@@ -74,9 +77,12 @@ impl AnyYard {
         arguments: &[&'a str],
         out: &mut W,
     ) -> (AnyYard, Result<(), LineError<'a>>)
-        ensures { let trees = line_text ⟦<Fault as Display>⟧.output ⟦<TreePen as Display>⟧.output ⟦<TreeClock as Display>⟧.output in
-            let vectors = line_text ⟦<Fault as Display>⟧.output ⟦<VectorPen as Display>⟧.output ⟦<VectorClock as Display>⟧.output in
-            Comes (AnyMistake self name.entry arguments.now) (result.0 ≡ self) (AnyLine trees vectors self name.now arguments.now result.0)
+        ensures { let trees = line_text ⟦<Fault as Display>⟧.output
+            ⟦<TreePen as Display>⟧.output ⟦<TreeClock as Display>⟧.output in
+            let vectors = line_text ⟦<Fault as Display>⟧.output
+            ⟦<VectorPen as Display>⟧.output ⟦<VectorClock as Display>⟧.output in
+            Comes (AnyMistake self name.entry arguments.now) (result.0 ≡ self)
+            (AnyLine trees vectors self name.now arguments.now result.0)
             result.1 (W.contents out.old) (W.contents out.new) }
     {
         match self {
@@ -110,7 +116,9 @@ where
     C::Pen: Display,
     PayloadError: From<P::Err>,
     ensures opened { let text = line_text ⟦<Fault as Display>⟧.output C.Pen.output C.output in
-        IfOk result (λ x. (p : Prints) × OpenLine P.from_str_gives C.meaning text asked.now.berths asked.now.words.now arguments.now x.0 p × OnOk x.1 (Printed p (W.contents out.old) (W.contents out.new))) }
+        IfOk result (λ x. (p : Prints)
+        × OpenLine P.from_str_gives C.meaning text asked.now.berths asked.now.words.now arguments.now x.0 p
+        × OnOk x.1 (Printed p (W.contents out.old) (W.contents out.new))) }
     ensures mistake { let conv = ⟦<PayloadError as From<P::Err>>⟧.from_gives in
         IfErr result (OpenMistake P.from_str_gives conv asked.now.words.now) }
     ensures kept { OnErr result (W.contents out.new ≡ W.contents out.old) }
@@ -127,7 +135,8 @@ fn open_season<'a, C: Clock, P: Payload + FromStr>(
 ) -> Result<(Option<Yard<C, P>>, Answered<C>), LineError<'a>>
 where
     PayloadError: From<P::Err>,
-    ensures opened { IfOk result (λ x. OpensYard P.from_str_gives C.meaning asked.now.berths asked.now.words.now x.0 x.1) }
+    ensures opened { IfOk result (λ x.
+        OpensYard P.from_str_gives C.meaning asked.now.berths asked.now.words.now x.0 x.1) }
     ensures mistake { let conv = ⟦<PayloadError as From<P::Err>>⟧.from_gives in
         IfErr result (OpenMistake P.from_str_gives conv asked.now.words.now) }
 {

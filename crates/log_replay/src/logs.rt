@@ -1,4 +1,4 @@
-ghost use Rattle.std.specs.Prelude.{◌≡◌, IfOk, OnErr};
+ghost use Rattle.std.specs.Prelude.{◌≡◌, IfOk, IfErr};
 ghost use Rattle.std.specs.Option.{option_map};
 ghost use Rattle.std.specs.String.{string_bytes};
 ghost use Rattle.log_replay.specs.Lines.{line_text};
@@ -7,7 +7,7 @@ ghost use Rattle.log_replay.specs.Logs.{told_text, Replays, Cut};
 use crate::errors::LineError;
 use crate::replays::Replay;
 use clock::Fault;
-use std::alloc::Global;
+use std::alloc::{AllocError, Global};
 use std::fmt::Display;
 use std::io;
 use std::io::{BufRead, BufWriter, Write};
@@ -44,12 +44,18 @@ impl Replay {
         log: R,
         out: &mut W,
     ) -> io::Result<Option<String>>
-        ensures replays { let trees = line_text ⟦<Fault as Display>⟧.output ⟦<TreePen as Display>⟧.output ⟦<TreeClock as Display>⟧.output in
-            let vectors = line_text ⟦<Fault as Display>⟧.output ⟦<VectorPen as Display>⟧.output ⟦<VectorClock as Display>⟧.output in
-            IfOk result (λ told. Replays trees vectors (R.remaining log) self.old self.new (option_map string_bytes told) (W.contents out.old) (W.contents out.new)) }
-        ensures cut { let trees = line_text ⟦<Fault as Display>⟧.output ⟦<TreePen as Display>⟧.output ⟦<TreeClock as Display>⟧.output in
-            let vectors = line_text ⟦<Fault as Display>⟧.output ⟦<VectorPen as Display>⟧.output ⟦<VectorClock as Display>⟧.output in
-            OnErr result (Cut trees vectors (R.remaining log) self.old self.new (W.contents out.old) (W.contents out.new)) }
+        ensures replays { let trees = line_text ⟦<Fault as Display>⟧.output
+            ⟦<TreePen as Display>⟧.output ⟦<TreeClock as Display>⟧.output in
+            let vectors = line_text ⟦<Fault as Display>⟧.output
+            ⟦<VectorPen as Display>⟧.output ⟦<VectorClock as Display>⟧.output in
+            IfOk result (λ told. Replays trees vectors (R.remaining log) self.old self.new
+            (option_map string_bytes told) (W.contents out.old) (W.contents out.new)) }
+        ensures cut { let trees = line_text ⟦<Fault as Display>⟧.output
+            ⟦<TreePen as Display>⟧.output ⟦<TreeClock as Display>⟧.output in
+            let vectors = line_text ⟦<Fault as Display>⟧.output
+            ⟦<VectorPen as Display>⟧.output ⟦<VectorClock as Display>⟧.output in
+            IfErr result (λ error. Cut trees vectors (R.remaining log) self.old self.new
+            error (W.contents out.old) (W.contents out.new)) }
     {
         let alloc = self.alloc;
         let mut number = 0u64;
@@ -79,8 +85,8 @@ impl Replay {
 }
 
 // What is told of the line of this number at which a log stops.
-fn told(alloc: Global, number: u64, what: &str) -> io::Result<String>
+fn told(alloc: Global, number: u64, what: &str) -> Result<String, AllocError>
     ensures { IfOk result (λ text. string_bytes text ≡ told_text number what.now) }
 {
-    Ok(format!(in alloc; "line {number}: {what}")?)
+    format!(in alloc; "line {number}: {what}")
 }

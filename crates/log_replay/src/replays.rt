@@ -49,9 +49,12 @@ impl Replay {
     /// call, and where memory ran out before it, the yard is what it was and
     /// nothing was written.
     pub fn line<'a, W: Write>(&mut self, line: &'a str, out: &mut W) -> Result<(), LineError<'a>>
-        ensures { let trees = line_text ⟦<Fault as Display>⟧.output ⟦<TreePen as Display>⟧.output ⟦<TreeClock as Display>⟧.output in
-            let vectors = line_text ⟦<Fault as Display>⟧.output ⟦<VectorPen as Display>⟧.output ⟦<VectorClock as Display>⟧.output in
-            Comes (LineEnds line.now self.old) (self.new ≡ self.old) (LineLeaves trees vectors line.now self.old self.new)
+        ensures { let trees = line_text ⟦<Fault as Display>⟧.output
+            ⟦<TreePen as Display>⟧.output ⟦<TreeClock as Display>⟧.output in
+            let vectors = line_text ⟦<Fault as Display>⟧.output
+            ⟦<VectorPen as Display>⟧.output ⟦<VectorClock as Display>⟧.output in
+            Comes (LineEnds line.now self.old) (self.new ≡ self.old)
+            (LineLeaves trees vectors line.now self.old self.new)
             result (W.contents out.old) (W.contents out.new) }
     {
         let words = words_of(self.alloc, line)?;
@@ -59,9 +62,12 @@ impl Replay {
     }
 
     fn words<'a, W: Write>(&mut self, words: &[&'a str], out: &mut W) -> Result<(), LineError<'a>>
-        ensures { let trees = line_text ⟦<Fault as Display>⟧.output ⟦<TreePen as Display>⟧.output ⟦<TreeClock as Display>⟧.output in
-            let vectors = line_text ⟦<Fault as Display>⟧.output ⟦<VectorPen as Display>⟧.output ⟦<VectorClock as Display>⟧.output in
-            Comes (WordsEnd words.now self.old) (self.new ≡ self.old) (WordsLeave trees vectors words.now self.old self.new)
+        ensures { let trees = line_text ⟦<Fault as Display>⟧.output
+            ⟦<TreePen as Display>⟧.output ⟦<TreeClock as Display>⟧.output in
+            let vectors = line_text ⟦<Fault as Display>⟧.output
+            ⟦<VectorPen as Display>⟧.output ⟦<VectorClock as Display>⟧.output in
+            Comes (WordsEnd words.now self.old) (self.new ≡ self.old)
+            (WordsLeave trees vectors words.now self.old self.new)
             result (W.contents out.old) (W.contents out.new) }
     {
         match words {
@@ -77,10 +83,13 @@ impl Replay {
         arguments: &[&'a str],
         out: &mut W,
     ) -> Result<(), LineError<'a>>
-        ensures { let trees = line_text ⟦<Fault as Display>⟧.output ⟦<TreePen as Display>⟧.output ⟦<TreeClock as Display>⟧.output in
-            let vectors = line_text ⟦<Fault as Display>⟧.output ⟦<VectorPen as Display>⟧.output ⟦<VectorClock as Display>⟧.output in
+        ensures { let trees = line_text ⟦<Fault as Display>⟧.output
+            ⟦<TreePen as Display>⟧.output ⟦<TreeClock as Display>⟧.output in
+            let vectors = line_text ⟦<Fault as Display>⟧.output
+            ⟦<VectorPen as Display>⟧.output ⟦<VectorClock as Display>⟧.output in
             let is_open = bytes_eq name.now (codes "open") in
-            Comes (Ends is_open self.old name.entry arguments.now) (self.new ≡ self.old) (Leaves trees vectors is_open self.old name.now arguments.now self.new)
+            Comes (Ends is_open self.old name.entry arguments.now) (self.new ≡ self.old)
+            (Leaves trees vectors is_open self.old name.now arguments.now self.new)
             result (W.contents out.old) (W.contents out.new) }
     {
         if name == "open" {
@@ -100,9 +109,12 @@ impl Replay {
         arguments: &[&'a str],
         out: &mut W,
     ) -> Result<(), LineError<'a>>
-        ensures { let trees = line_text ⟦<Fault as Display>⟧.output ⟦<TreePen as Display>⟧.output ⟦<TreeClock as Display>⟧.output in
-            let vectors = line_text ⟦<Fault as Display>⟧.output ⟦<VectorPen as Display>⟧.output ⟦<VectorClock as Display>⟧.output in
-            Comes (AnyOpenMistake arguments.now) (self.new ≡ self.old) (AnyOpenLine trees vectors arguments.now self.new)
+        ensures { let trees = line_text ⟦<Fault as Display>⟧.output
+            ⟦<TreePen as Display>⟧.output ⟦<TreeClock as Display>⟧.output in
+            let vectors = line_text ⟦<Fault as Display>⟧.output
+            ⟦<VectorPen as Display>⟧.output ⟦<VectorClock as Display>⟧.output in
+            Comes (AnyOpenMistake arguments.now) (self.new ≡ self.old)
+            (AnyOpenLine trees vectors arguments.now self.new)
             result (W.contents out.old) (W.contents out.new) }
     {
         let (yard, written) = AnyYard::open(self.alloc, arguments, out)?;

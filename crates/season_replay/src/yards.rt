@@ -29,8 +29,10 @@ impl<C: Clock, P: Payload> Yard<C, P> {
         name: &'a str,
         call: Call<P>,
     ) -> (Yard<C, P>, Result<Answered<C>, Mistake<'a>>)
-        ensures carried { takes self call ≡ true → IsOkAnd result.1 (Carried C.meaning P.same self call result.0) }
-        ensures mistake { takes self call ≡ false → IsErrOf result.1 (SealedMistake name.entry) }
+        ensures carried { takes self call ≡ true →
+            IsOkAnd result.1 (Carried C.meaning P.same self call result.0) }
+        ensures mistake { takes self call ≡ false →
+            IsErrOf result.1 (SealedMistake name.entry) }
         ensures kept { takes self call ≡ false → result.0 ≡ self }
     {
         match self {

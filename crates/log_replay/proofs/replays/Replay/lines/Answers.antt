@@ -2,7 +2,7 @@ use Rattle.std.proofs.Common.{ap, ◌∙◌, inl, inr}
 use Rattle.std.specs.Io.Iter.{lines_known_bytes}
 use Rattle.std.specs.String.{string_bytes}
 use Rattle.log_replay.specs.Logs.{told_text}
-use Rattle.log_replay.proofs.Going.{tree_lines, vector_lines, at_start, read_of, one_more, ended, unread, stopped, cut_short, cut_off}
+use Rattle.log_replay.proofs.Going.{tree_lines, vector_lines, at_start, read_of, one_more, ended, unread, stopped, cut_short, cut_off, out_of_memory}
 use Rattle.log_replay.proofs.replays.Replay.lines.Goals as goal
 
 pub loop-line-init : goal.loop-line-init
@@ -26,12 +26,15 @@ returns-in-Err-Mistake-clause-replays g c =
 pub returns-in-Err-OutOfMemory-clause-cut : goal.returns-in-Err-OutOfMemory-clause-cut
 returns-in-Err-OutOfMemory-clause-cut g c =
     let line = rw c.in-Err-OutOfMemory.field-0-is at c.in-Err-OutOfMemory.ensures in
-    cut_short tree_lines vector_lines c.args.self.now (g.R.Read.remaining c.args.log) _ c.loop-line.self c.loop-line.number _ _ c.line.new.self _ c.loop-line.invariant line.0 line.1
+    cut_short tree_lines vector_lines c.args.self.now (g.R.Read.remaining c.args.log) _ c.loop-line.self c.loop-line.number _ _ c.line.new.self _ c.from.result c.loop-line.invariant c.from.ensures line.0 line.1
 
 pub returns-in-Err-Unanswered-clause-cut : goal.returns-in-Err-Unanswered-clause-cut
 returns-in-Err-Unanswered-clause-cut g c =
+    let rest = lines_known_bytes g.R.Read.remaining c.loop-line.line-iterator in
+    let rest' = lines_known_bytes g.R.Read.remaining c.next.new.self in
+    let read = read_of tree_lines vector_lines string_bytes c.in-Some.line c.in-Ok.line rest rest' c.as_str-in-loop-line.result.now c.in-Ok.is c.as_str-in-loop-line.ensures.value c.in-Some.ensures.steps.1 in
     let line = rw c.in-Err-Unanswered.field-0-is at c.in-Err-Unanswered.ensures in
-    cut_off tree_lines vector_lines c.args.self.now (g.R.Read.remaining c.args.log) _ c.loop-line.self c.loop-line.number _ _ c.as_str-in-loop-line.result.now c.line.new.self _ line.0 c.loop-line.invariant line.1
+    cut_off tree_lines vector_lines c.args.self.now (g.R.Read.remaining c.args.log) rest c.loop-line.self c.loop-line.number _ _ c.as_str-in-loop-line.result.now rest' c.line.new.self _ line.0 c.in-Err-Unanswered.error c.loop-line.invariant read line.1
 
 pub loop-line-preserved : goal.loop-line-preserved
 loop-line-preserved g c =
@@ -43,3 +46,9 @@ loop-line-preserved g c =
 
 pub returns-clause-replays : goal.returns-clause-replays
 returns-clause-replays g c = ended tree_lines vector_lines c.args.self.now (g.R.Read.remaining c.args.log) _ c.loop-line.self c.loop-line.number _ _ c.loop-line.invariant c.in-None.ensures.steps.1
+
+pub returns-in_err-told-in-Err-Mistake-clause-cut : goal.returns-in_err-told-in-Err-Mistake-clause-cut
+returns-in_err-told-in-Err-Mistake-clause-cut g c =
+    let line = rw c.in-Err-Mistake.field-0-is at c.in-Err-Mistake.ensures in
+    out_of_memory c.from_residual-in_err-told-in-Err-Mistake.result _ c.from_residual-in_err-told-in-Err-Mistake.ensures.1
+    (λ e kind. cut_short tree_lines vector_lines c.args.self.now (g.R.Read.remaining c.args.log) _ c.loop-line.self c.loop-line.number _ _ c.line.new.self _ e c.loop-line.invariant kind line.1 line.2)
