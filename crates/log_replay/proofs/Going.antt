@@ -1,12 +1,10 @@
 -- A log that is being replayed, line by line.
 --
 -- Going   the lines so far were carried out, from the first yard to this one; the rest is still to be read, and so many lines are counted
-use Rattle.std.proofs.Common.{◌≡◌, ◌+◌, ◌-◌, ◌^◌, ◌<◌, min, ℕ, List, [], ◌∷◌, ◌++◌, length, Some, None, Option, Ok, Err, Result, IfSome, IfOk, IfErr, IsErrAnd, refl, sym, ap, ◌∙◌, subst, inl, inr, arith, length-append}
+use Rattle.std.proofs.Common.{◌≡◌, ◌+◌, ◌-◌, ◌^◌, ◌<◌, min, ℕ, List, [], ◌∷◌, ◌++◌, length, Some, None, Option, Ok, Result, IfSome, IfOk, refl, sym, ap, ◌∙◌, subst, arith, length-append}
 use Rattle.std.specs.Io.BufRead.{first_line, drop_through, DropsThrough}
 use Rattle.std.specs.Io.KnownBytes.{IsAtEnd}
-use Rattle.std.specs.IoError.{error_kind}
 use Rattle.std.specs.declared.io.Error.{Error}
-use Rattle.std.specs.declared.io.ErrorKind.TheVariants.{OutOfMemory}
 use Rattle.clock.specs.declared.faults.Fault.{Fault}
 use Rattle.tree_clock.specs.declared.clocks.TreeClock.{TreeClock}
 use Rattle.tree_clock.specs.declared.pens.TreePen.{TreePen}
@@ -16,11 +14,12 @@ use Rattle.season_log.specs.declared.answers.Answer.{Answer}
 use Rattle.season_log.specs.declared.mistakes.Mistake.{Mistake}
 use Rattle.season_log.specs.Mistakes.{mistake_text}
 use Rattle.season_log.specs.Words.{Word}
+use Rattle.log_replay.specs.declared.errors.LogError.TheVariants.{Unread, OutOfMemory}
 use Rattle.log_replay.specs.declared.kinds.AnyYard.{AnyYard}
 use Rattle.log_replay.specs.Lines.{line_text}
 use Rattle.log_replay.specs.Outcomes.{Prints, Printed}
 use Rattle.log_replay.specs.Replays.{LineLeaves, LineEnds}
-use Rattle.log_replay.specs.Logs.{LinesThen, Next, Runs, line_number, told_text, Ended, Stopped, Unread, Cut}
+use Rattle.log_replay.specs.Logs.{LinesThen, Next, Runs, line_number, told_text, Ended, Stopped, Carried, CutOff, Fails}
 
 -- what a line prints at each clock kind
 abbrev pub tree_lines : List ℕ → List Word → Result (Answer TreePen TreeClock) Fault → Option (List ℕ)
@@ -28,11 +27,6 @@ tree_lines = line_text (Rattle.clock.specs.contracts.faults.FaultDisplay.TheImpl
 
 abbrev pub vector_lines : List ℕ → List Word → Result (Answer (Names 16) (Counts 16)) Fault → Option (List ℕ)
 vector_lines = line_text (Rattle.clock.specs.contracts.faults.FaultDisplay.TheImpl.ghosts).output (Rattle.vector_clock.specs.contracts.pens.NamesDisplay.TheImpl.ghosts (denote.Param.number 16)).output (Rattle.vector_clock.specs.contracts.clocks.CountsDisplay.TheImpl.ghosts (denote.Param.number 16)).output
-
--- what holds of any want of memory holds of the error that a call ended in
-pub out_of_memory : {X : Type 0} (r : Result X Error) (fact : Error → Type 0) → IsErrAnd r (λ e. error_kind e ≡ OutOfMemory) → ((e : Error) → error_kind e ≡ OutOfMemory → fact e) → IfErr r fact
-out_of_memory (Ok x) fact h holds = tt
-out_of_memory (Err e) fact h holds = holds e h
 
 lines_more : (text : List ℕ) (ls : List (List ℕ)) (rest l : List ℕ) → LinesThen text ls rest → 0 < length rest → l ≡ first_line rest → LinesThen text (ls ++ l ∷ []) (drop_through 10 rest)
 lines_more text [] rest l e some is = subst (λ (t : List ℕ). LinesThen t (l ∷ []) (drop_through 10 rest)) (sym e) (some, is, refl)
@@ -106,14 +100,11 @@ module _ (tree_text : List ℕ → List Word → Result (Answer TreePen TreeCloc
   pub ended : (first : Option AnyYard) (text rest : Option (List ℕ)) (y : Option AnyYard) (n : ℕ) (old new : Option (List ℕ)) → Going first text rest y n old new → IsAtEnd rest → Ended tree_text vector_text text first y old new
   ended first text rest y n old new g end = record { lines = g.lines; whole = all_read text rest g.lines end g.reads; run = g.run }
 
-  pub unread : (first : Option AnyYard) (text rest : Option (List ℕ)) (y : Option AnyYard) (n : ℕ) (old new : Option (List ℕ)) (k : ℕ) (what told : List ℕ) → Going first text rest y n old new → k ≡ min (n + 1) (2 ^ 64 - 1) → told ≡ told_text k what → Unread tree_text vector_text text first y told old new
-  unread first text rest y n old new k what told g e is = record {
-    lines = g.lines;
-    what = what;
-    begins = so_far text rest g.lines g.reads;
-    run = g.run;
-    is = is ∙ ap (λ i. told_text i what) (number_is first text rest y n old new k g e);
-  }
+  carried : (first : Option AnyYard) (text rest : Option (List ℕ)) (y : Option AnyYard) (n : ℕ) (old new : Option (List ℕ)) (g : Going first text rest y n old new) → Carried tree_text vector_text text first y g.lines old new
+  carried first text rest y n old new g = record { begins = so_far text rest g.lines g.reads; run = g.run }
+
+  pub unread : (first : Option AnyYard) (text rest : Option (List ℕ)) (y : Option AnyYard) (n : ℕ) (old new : Option (List ℕ)) (k : ℕ) (error : Error) → Going first text rest y n old new → k ≡ min (n + 1) (2 ^ 64 - 1) → Fails tree_text vector_text text first y (Unread k error) old new
+  unread first text rest y n old new k error g e = (g.lines, carried first text rest y n old new g, number_is first text rest y n old new k g e)
 
   pub stopped : (first : Option AnyYard) (text rest : Option (List ℕ)) (y : Option AnyYard) (n : ℕ) (old mid : Option (List ℕ)) (l : List ℕ) (rest' : Option (List ℕ)) (z : Option AnyYard) (m : Mistake) (k : ℕ) (new : Option (List ℕ)) (told : List ℕ) →
       Going first text rest y n old mid → Read rest l rest' → LineEnds l y m → z ≡ y → new ≡ mid → k ≡ min (n + 1) (2 ^ 64 - 1) → told ≡ told_text k (mistake_text m) → Stopped tree_text vector_text text first z told old new
@@ -128,9 +119,12 @@ module _ (tree_text : List ℕ → List Word → Result (Answer TreePen TreeCloc
   }
 
   -- memory ran out, and nothing more was carried out
-  pub cut_short : (first : Option AnyYard) (text rest : Option (List ℕ)) (y : Option AnyYard) (n : ℕ) (old mid : Option (List ℕ)) (z : Option AnyYard) (new : Option (List ℕ)) (error : Error) → Going first text rest y n old mid → error_kind error ≡ OutOfMemory → z ≡ y → new ≡ mid → Cut tree_text vector_text text first z error old new
-  cut_short first text rest y n old mid z new error g kind stays nothing = record { lines = g.lines; yard = y; answered = mid; begins = so_far text rest g.lines g.reads; run = g.run; halts = inl (kind, stays, nothing) }
+  pub cut_short : (first : Option AnyYard) (text rest : Option (List ℕ)) (y : Option AnyYard) (n : ℕ) (old mid : Option (List ℕ)) (z : Option AnyYard) (new : Option (List ℕ)) → Going first text rest y n old mid → z ≡ y → new ≡ mid → Fails tree_text vector_text text first z OutOfMemory old new
+  cut_short first text rest y n old mid z new g stays nothing = (
+    g.lines,
+    subst (λ (w : Option AnyYard). Carried tree_text vector_text text first w g.lines old new) (sym stays) (subst (λ (o : Option (List ℕ)). Carried tree_text vector_text text first y g.lines old o) (sym nothing) (carried first text rest y n old mid g)),
+  )
 
   -- a line was carried out, and its answer was not written whole
-  pub cut_off : (first : Option AnyYard) (text rest : Option (List ℕ)) (y : Option AnyYard) (n : ℕ) (old mid : Option (List ℕ)) (l : List ℕ) (rest' : Option (List ℕ)) (z : Option AnyYard) (new printed : Option (List ℕ)) (error : Error) → Going first text rest y n old mid → Read rest l rest' → LineLeaves tree_text vector_text l y z (Some printed) → Cut tree_text vector_text text first z error old new
-  cut_off first text rest y n old mid l rest' z new printed error g read leaves = record { lines = g.lines; yard = y; answered = mid; begins = so_far text rest g.lines g.reads; run = g.run; halts = inr (l, printed, next_line text rest l rest' g.lines read g.reads, leaves) }
+  pub cut_off : (first : Option AnyYard) (text rest : Option (List ℕ)) (y : Option AnyYard) (n : ℕ) (old mid : Option (List ℕ)) (l : List ℕ) (rest' : Option (List ℕ)) (z : Option AnyYard) (printed : Option (List ℕ)) → Going first text rest y n old mid → Read rest l rest' → LineLeaves tree_text vector_text l y z (Some printed) → CutOff tree_text vector_text text first z old
+  cut_off first text rest y n old mid l rest' z printed g read leaves = record { lines = g.lines; line = l; yard = y; answered = mid; printed = printed; next = next_line text rest l rest' g.lines read g.reads; run = g.run; leaves = leaves }

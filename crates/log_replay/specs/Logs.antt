@@ -1,25 +1,26 @@
 -- A whole log: its lines are carried out one after the other, up to the first that is no call.
 --
--- LinesThen text ls rest   the text is these lines one after the other, each with its end, and then the rest
--- Runs y ls z old new      each of the lines is carried out in turn and answered; the first finds the yard y, the last leaves the yard z
--- line_number n            the number of a line with n lines before it: they count from 1, and 64 bits hold no larger number
+-- LinesThen text ls rest   the text is these lines one after the other, each with its end, and the rest
+-- Next text ls l           the line l is the one after the lines ls
+-- Runs y ls z old new      each of the lines is carried out in turn and answered; the first finds the
+--                          yard y, the last leaves the yard z
+-- line_number n            the number of a line with n lines before it: they count from 1, and 64 bits
+--                          hold no larger number
 -- told_text n what         what is told of line n: `line`, its number, a colon, and what is wrong
 -- Ended                    each line of the log was carried out
--- Stopped told             each line before some line was carried out; that line is no call, which is what is told, with its number
--- Unread told              each line before some line was carried out; that line could not be read, which is what is told, with its number
--- Next ls l                the line l is the one after the lines ls
--- Cut error                each line before some line was carried out and answered; there memory ran out, as the error says, and nothing more was
---                          done, or that line was carried out and its answer could not be written whole
+-- Stopped told             each line before some line was carried out; that line is no call, which is
+--                          what is told, with its number
 -- Replays told             what comes of a log of which this is told, or nothing
+-- Fails error              what comes of a log that ends in this error: some lines were carried out and
+--                          answered; of a line that could not be read the number is theirs and one more;
+--                          a line that could not be answered whole is the one after them
 --
--- `text` is the text of the log, where it is known. The log finds the yard y and leaves the yard z; `old` and `new` are what is known of
--- the output before and afterwards. tree_text and vector_text say what a line prints at each clock kind.
-use Rattle.std.specs.Prelude.{◌≡◌, ◌⊎◌, ◌+◌, ◌-◌, ◌^◌, ◌<◌, min, codes, ℕ, List, [], ◌∷◌, ◌++◌, length, Some, None, Option, Result, IfSome}
+-- `text` is the text of the log, where it is known. The log finds the yard y and leaves the yard z; `old`
+-- and `new` are what is known of the output before and afterwards. tree_text and vector_text say what a
+-- line prints at each clock kind.
+use Rattle.std.specs.Prelude.{◌≡◌, ◌+◌, ◌-◌, ◌^◌, ◌<◌, min, codes, ℕ, List, [], ◌∷◌, ◌++◌, length, Some, None, Option, Result, IfSome}
 use Rattle.std.specs.Fmt.{decimal}
 use Rattle.std.specs.Io.BufRead.{first_line, drop_through}
-use Rattle.std.specs.IoError.{error_kind}
-use Rattle.std.specs.declared.io.Error.{Error}
-use Rattle.std.specs.declared.io.ErrorKind.TheVariants.{OutOfMemory}
 use Rattle.clock.specs.declared.faults.Fault.{Fault}
 use Rattle.tree_clock.specs.declared.clocks.TreeClock.{TreeClock}
 use Rattle.tree_clock.specs.declared.pens.TreePen.{TreePen}
@@ -29,6 +30,8 @@ use Rattle.season_log.specs.declared.answers.Answer.{Answer}
 use Rattle.season_log.specs.declared.mistakes.Mistake.{Mistake}
 use Rattle.season_log.specs.Mistakes.{mistake_text}
 use Rattle.season_log.specs.Words.{Word}
+use Rattle.log_replay.specs.declared.errors.LogError.{LogError}
+use Rattle.log_replay.specs.declared.errors.LogError.TheVariants.{Unread, OutOfMemory, Unanswered}
 use Rattle.log_replay.specs.declared.kinds.AnyYard.{AnyYard}
 use Rattle.log_replay.specs.Outcomes.{Prints, Printed}
 use Rattle.log_replay.specs.Replays.{LineLeaves, LineEnds}
@@ -66,22 +69,27 @@ module _ (tree_text : List ℕ → List Word → Result (Answer TreePen TreeCloc
       pub ends : LineEnds line z mistake
       pub is : told ≡ told_text (line_number (length lines)) (mistake_text mistake)
 
-    pub record Unread (told : List ℕ) (old new : Option (List ℕ)) : Type 0 where
-      pub lines : List (List ℕ)
-      pub what : List ℕ
+    -- the lines were carried out and answered, and what is left of the text comes after them
+    pub record Carried (lines : List (List ℕ)) (old new : Option (List ℕ)) : Type 0 where
       pub begins : IfSome text (λ t. (rest : List ℕ) × LinesThen t lines rest)
       pub run : Runs y lines z old new
-      pub is : told ≡ told_text (line_number (length lines)) what
-
-    pub record Cut (error : Error) (old new : Option (List ℕ)) : Type 0 where
-      pub lines : List (List ℕ)
-      pub yard : Option AnyYard
-      pub answered : Option (List ℕ)
-      pub begins : IfSome text (λ t. (rest : List ℕ) × LinesThen t lines rest)
-      pub run : Runs y lines yard old answered
-      pub halts : ((error_kind error ≡ OutOfMemory) × (z ≡ yard) × (new ≡ answered)) ⊎
-          ((line : List ℕ) × (printed : Option (List ℕ)) × Next text lines line × LineLeaves tree_text vector_text line yard z (Some printed))
 
     abbrev pub Replays : Option (List ℕ) → Option (List ℕ) → Option (List ℕ) → Type 0
     Replays None old new = Ended old new
-    Replays (Some told) old new = Stopped told old new ⊎ Unread told old new
+    Replays (Some told) old new = Stopped told old new
+
+  -- one line more was carried out
+  pub record CutOff (text : Option (List ℕ)) (y z : Option AnyYard) (old : Option (List ℕ)) : Type 0 where
+    pub lines : List (List ℕ)
+    pub line : List ℕ
+    pub yard : Option AnyYard
+    pub answered : Option (List ℕ)
+    pub printed : Option (List ℕ)
+    pub next : Next text lines line
+    pub run : Runs y lines yard old answered
+    pub leaves : LineLeaves tree_text vector_text line yard z (Some printed)
+
+  abbrev pub Fails : Option (List ℕ) → Option AnyYard → Option AnyYard → LogError → Option (List ℕ) → Option (List ℕ) → Type 0
+  Fails text y z (Unread number error) old new = (lines : List (List ℕ)) × Carried text y z lines old new × (number ≡ line_number (length lines))
+  Fails text y z OutOfMemory old new = (lines : List (List ℕ)) × Carried text y z lines old new
+  Fails text y z (Unanswered error) old new = CutOff text y z old

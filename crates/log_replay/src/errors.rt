@@ -1,5 +1,6 @@
 ghost use Rattle.std.specs.Prelude.{◌≡◌};
 ghost use Rattle.log_replay.specs.declared.errors.LineError.TheVariants.{Mistake as Told, OutOfMemory};
+ghost use Rattle.log_replay.specs.declared.errors.LogError.TheVariants.{OutOfMemory as NoMemory};
 
 use season_log::Mistake;
 use std::alloc::{AllocError, AllocFailed};
@@ -15,6 +16,27 @@ pub enum LineError<'a> {
     OutOfMemory,
     /// The call was carried out, and its answer could not be written whole.
     Unanswered(io::Error),
+}
+
+/// Why a log is not carried out to its end, nor to a line that is no call.
+#[derive(Drop)]
+pub enum LogError {
+    /// The line of this number could not be read. The lines before it were
+    /// carried out and answered.
+    Unread { number: u64, error: io::Error },
+    /// Memory ran out. The lines before were carried out and answered.
+    OutOfMemory,
+    /// The lines before were carried out and answered, and one more was carried
+    /// out, whose answer could not be written whole.
+    Unanswered(io::Error),
+}
+
+impl From<AllocError> for LogError {
+    ghost from_gives = { λ _ error. error ≡ NoMemory };
+
+    fn from(_error: AllocError) -> LogError {
+        LogError::OutOfMemory
+    }
 }
 
 impl<'a> From<Mistake<'a>> for LineError<'a> {

@@ -13,7 +13,7 @@ mod kinds;
 mod logs;
 mod replays;
 
-pub use errors::LineError;
+pub use errors::{LineError, LogError};
 pub use kinds::{AnyYard, Opened};
 pub use logs::replay_log;
 pub use replays::Replay;

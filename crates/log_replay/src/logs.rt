@@ -1,12 +1,14 @@
 ghost use Rattle.std.specs.Prelude.{◌≡◌, IfOk, IfErr};
 ghost use Rattle.std.specs.Option.{option_map};
 ghost use Rattle.std.specs.String.{string_bytes};
+ghost use Rattle.season_log.specs.Mistakes.{mistake_text};
 ghost use Rattle.log_replay.specs.Lines.{line_text};
-ghost use Rattle.log_replay.specs.Logs.{told_text, Replays, Cut};
+ghost use Rattle.log_replay.specs.Logs.{told_text, Replays, Fails};
 
-use crate::errors::LineError;
+use crate::errors::{LineError, LogError};
 use crate::replays::Replay;
 use clock::Fault;
+use season_log::Mistake;
 use std::alloc::{AllocError, Global};
 use std::fmt::Display;
 use std::io;
@@ -23,7 +25,14 @@ pub fn replay_log<R: BufRead + Drop>(
 ) -> io::Result<ExitCode> {
     let alloc = rt.alloc();
     let mut out = BufWriter::new(alloc, io::writer(rt))?;
-    let stopped = Replay::new(alloc).lines(log, &mut out)?;
+    let stopped = match Replay::new(alloc).lines(log, &mut out) {
+        Ok(told) => told,
+        Err(LogError::Unread { number, error }) => Some(format!(in alloc;
+            "line {number}: {error}"
+        )?),
+        Err(LogError::OutOfMemory) => return Err(io::Error::from(io::ErrorKind::OutOfMemory)),
+        Err(LogError::Unanswered(error)) => return Err(error),
+    };
     out.flush()?;
     match stopped {
         None => Ok(ExitCode::SUCCESS),
@@ -36,25 +45,25 @@ pub fn replay_log<R: BufRead + Drop>(
 
 impl Replay {
     /// Carries out the lines of a log one after the other and writes their
-    /// answers, up to the first that is no call, or cannot be read; the yard is
-    /// left as the lines before that one left it. What is told of it is answered,
-    /// as `line 3: no call is named 'prune'`; lines count from 1.
+    /// answers, up to the first that is no call; the yard is left as the lines
+    /// before that one left it. What is told of it is answered, as
+    /// `line 3: no call is named 'prune'`; lines count from 1.
     pub fn lines<R: BufRead + Drop, W: Write>(
         &mut self,
         log: R,
         out: &mut W,
-    ) -> io::Result<Option<String>>
+    ) -> Result<Option<String>, LogError>
         ensures replays { let trees = line_text ⟦<Fault as Display>⟧.output
             ⟦<TreePen as Display>⟧.output ⟦<TreeClock as Display>⟧.output in
             let vectors = line_text ⟦<Fault as Display>⟧.output
             ⟦<VectorPen as Display>⟧.output ⟦<VectorClock as Display>⟧.output in
             IfOk result (λ told. Replays trees vectors (R.remaining log) self.old self.new
             (option_map string_bytes told) (W.contents out.old) (W.contents out.new)) }
-        ensures cut { let trees = line_text ⟦<Fault as Display>⟧.output
+        ensures fails { let trees = line_text ⟦<Fault as Display>⟧.output
             ⟦<TreePen as Display>⟧.output ⟦<TreeClock as Display>⟧.output in
             let vectors = line_text ⟦<Fault as Display>⟧.output
             ⟦<VectorPen as Display>⟧.output ⟦<VectorClock as Display>⟧.output in
-            IfErr result (λ error. Cut trees vectors (R.remaining log) self.old self.new
+            IfErr result (λ error. Fails trees vectors (R.remaining log) self.old self.new
             error (W.contents out.old) (W.contents out.new)) }
     {
         let alloc = self.alloc;
@@ -63,30 +72,25 @@ impl Replay {
             number = number.saturating_add(1);
             let line = match line {
                 Ok(line) => line,
-                Err(error) => {
-                    let what = format!(in alloc; "{error}")?;
-                    return Ok(Some(told(alloc, number, what.as_str())?));
-                }
+                Err(error) => return Err(LogError::Unread { number, error }),
             };
             match self.line(line.as_str(), out) {
                 Ok(()) => {}
                 Err(LineError::Mistake(mistake)) => {
-                    let what = format!(in alloc; "{mistake}")?;
-                    return Ok(Some(told(alloc, number, what.as_str())?));
+                    return Ok(Some(told(alloc, number, &mistake)?));
                 }
-                Err(LineError::OutOfMemory) => {
-                    return Err(io::Error::from(io::ErrorKind::OutOfMemory));
-                }
-                Err(LineError::Unanswered(error)) => return Err(error),
+                Err(LineError::OutOfMemory) => return Err(LogError::OutOfMemory),
+                Err(LineError::Unanswered(error)) => return Err(LogError::Unanswered(error)),
             }
         }
         Ok(None)
     }
 }
 
-// What is told of the line of this number at which a log stops.
-fn told(alloc: Global, number: u64, what: &str) -> Result<String, AllocError>
-    ensures { IfOk result (λ text. string_bytes text ≡ told_text number what.now) }
+// What is told of the line of this number, at which a log stops.
+fn told(alloc: Global, number: u64, mistake: &Mistake<'_>) -> Result<String, AllocError>
+    ensures { IfOk result (λ text.
+        string_bytes text ≡ told_text number (mistake_text mistake.now)) }
 {
-    format!(in alloc; "line {number}: {what}")
+    format!(in alloc; "line {number}: {mistake}")
 }

@@ -1,4 +1,4 @@
-use log_replay::{LineError, Replay};
+use log_replay::{LineError, LogError, Replay};
 use std::io;
 use std::test::Fail;
 
@@ -6,9 +6,13 @@ use std::test::Fail;
 fn answers(rt: &HostRuntime, log: &str) -> io::Result<Vec<u8>> {
     let mut out = Vec::new(rt.alloc());
     let mut replay = Replay::new(rt.alloc());
-    if let Some(told) = replay.lines(log.as_bytes(), &mut out)? {
-        out.extend_from_slice(told.as_bytes())?;
-        out.push(b'\n')?;
+    match replay.lines(log.as_bytes(), &mut out) {
+        Ok(None) => {}
+        Ok(Some(told)) => {
+            out.extend_from_slice(told.as_bytes())?;
+            out.push(b'\n')?;
+        }
+        Err(_) => return Err(io::Error::from(io::ErrorKind::Other)),
     }
     Ok(out)
 }
@@ -51,17 +55,17 @@ fn a_line_that_is_no_call_ends_the_log(rt: HostRuntime) -> Result<(), Fail> {
     Ok(())
 }
 
-// A line that is no text is told with its number too.
+// A line that is no text has its number too.
 #[test]
 fn a_line_that_cannot_be_read_ends_the_log(rt: HostRuntime) -> Result<(), Fail> {
     let log = b"open tree valve 1 shut\n\xff\xfe\nfork 0 0\n";
     let mut out = Vec::new(rt.alloc());
-    let told = Replay::new(rt.alloc()).lines(log.as_slice(), &mut out)?;
+    let stopped = Replay::new(rt.alloc()).lines(log.as_slice(), &mut out);
+    assert!(rt; matches!(stopped, Err(LogError::Unread { number: 2, .. })));
     assert_eq!(rt;
         out.as_slice(),
         b"open tree valve 1 shut: ok 1 berths 1 files\n".as_slice()
     );
-    assert!(rt; told.is_some_and(|told| told.as_str().starts_with("line 2: ")));
     Ok(())
 }
 
@@ -130,6 +134,20 @@ fn an_answer_that_cannot_be_written_is_told(rt: HostRuntime) -> Result<(), Fail>
     out.clear();
     assert!(rt; replay.line("judge 0 1 0", &mut out).is_ok());
     assert_eq!(rt; out.as_slice(), b"judge 0 1 0: ahead\n".as_slice());
+    let mut room = [0u8; 18];
+    let mut short = room.as_mut_slice();
+    let log = b"edit 1 0 shut\nseal\ndrop 0\n";
+    assert!(rt;
+        matches!(
+            replay.lines(log.as_slice(), &mut short),
+            Err(LogError::Unanswered(_))
+        )
+    );
+    assert_eq!(rt; room.as_slice(), b"edit 1 0 shut: ok\n".as_slice());
+    out.clear();
+    assert!(rt; replay.line("judge 0 1 0", &mut out).is_ok());
+    assert_eq!(rt; out.as_slice(), b"judge 0 1 0: conflict\n".as_slice());
+    assert!(rt; matches!(replay.line("seal", &mut out), Err(LineError::Mistake(_))));
     Ok(())
 }
 
