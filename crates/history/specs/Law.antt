@@ -7,7 +7,7 @@
 -- EveryVerdict     every verdict on two copies of one file that a call of the yard can give or use compares the edits behind the two: whatever card
 --                  passes the check of the sizes, for any two berths in use, which may be one, and any file
 -- Holds            a copy holds the opening payload if no edit is behind it, else that of the one edit behind it that was made with exactly all the others behind it
--- Lawful           of one call: verdicts that it gives or rests on compare the sets just before it, and every edit behind some copy just before is behind some copy still, unless it is an accepted drop; 12 never comes
+-- Lawful           of one call: the verdicts in its answer, and that there is or is no conflict where settle and retire are accepted or refused with 7 or 8, compare the sets just before it (of every other verdict that it uses `EveryVerdict` says so); every edit behind some copy just before is behind some copy still, unless it is an accepted drop; 12 never comes
 -- Points           of one yard: its tables are well made, the berths in use have the copies, every verdict compares, copies judged equal hold the same payload, pens of different berths have no mark in common, and every further call is lawful
 -- LawOf           the points hold of every yard that calls lead to
 -- Kept             of one call: the points of the yard as it was handed in, what the call does, and the points of the yard that it leaves
@@ -81,7 +81,7 @@ module _ {Pen C P : Type 0} (m : Meaning Pen C) (payloads : List P) (y : Yard Pe
       judged m (length payloads) y.copies a b f ≡ Equal → (x.payload ≡ z.payload) × Holds y.history opening (y.history.behind a f) x.payload
 
 module _ {Pen C P : Type 0} (h : History P) where
-  -- the verdicts that an accepted call gives or rests on
+  -- the verdicts in an accepted call's answer; of settle and retire, that there was or was no conflict
   abbrev pub Gives : (c : Call P) → Left Pen C P (Answer c) → Type 0
   Gives (fork card a b) left = Unit
   Gives (edit card a f p) left = Unit
@@ -93,7 +93,7 @@ module _ {Pen C P : Type 0} (h : History P) where
   Gives (drop card a) left = Unit
   Gives (seal card) left = Unit
 
-  -- the refusals that rest on a verdict
+  -- the refusals that say there is no conflict, or where one is: 7 and 8
   abbrev pub Uses : (c : Call P) → Left Pen C P (Answer c) → Type 0
   Uses (fork card a b) left = Unit
   Uses (edit card a f p) left = Unit

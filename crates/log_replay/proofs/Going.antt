@@ -1,10 +1,10 @@
 -- A log that is being replayed, line by line.
 --
 -- Going   the lines so far were carried out, from the first yard to this one; the rest is still to be read, and so many lines are counted
-use Rattle.std.proofs.Common.{◌≡◌, ◌+◌, ◌-◌, ◌^◌, ◌<◌, min, ℕ, List, [], ◌∷◌, ◌++◌, length, Some, None, Option, Ok, Result, IfSome, IfOk, refl, sym, ap, ◌∙◌, subst, arith, length-append}
+use Rattle.std.proofs.Common.{String, Global, ◌≡◌, ◌+◌, ◌-◌, ◌^◌, ◌<◌, min, ℕ, List, [], ◌∷◌, ◌++◌, length, Some, None, Option, Ok, Result, IfSome, IfOk, refl, sym, ap, ◌∙◌, subst, arith, length-append}
 use Rattle.std.specs.Io.BufRead.{first_line, drop_through, DropsThrough}
 use Rattle.std.specs.Io.KnownBytes.{IsAtEnd}
-use Rattle.std.specs.declared.io.Error.{Error}
+use Rattle.std.specs.String.{string_bytes}
 use Rattle.clock.specs.declared.faults.Fault.{Fault}
 use Rattle.tree_clock.specs.declared.clocks.TreeClock.{TreeClock}
 use Rattle.tree_clock.specs.declared.pens.TreePen.{TreePen}
@@ -14,12 +14,12 @@ use Rattle.season_log.specs.declared.answers.Answer.{Answer}
 use Rattle.season_log.specs.declared.mistakes.Mistake.{Mistake}
 use Rattle.season_log.specs.Mistakes.{mistake_text}
 use Rattle.season_log.specs.Words.{Word}
-use Rattle.log_replay.specs.declared.errors.LogError.TheVariants.{Unread, OutOfMemory}
+use Rattle.log_replay.specs.declared.errors.LogError.TheVariants.{Unreadable, OutOfMemory}
 use Rattle.log_replay.specs.declared.kinds.AnyYard.{AnyYard}
 use Rattle.log_replay.specs.Lines.{line_text}
 use Rattle.log_replay.specs.Outcomes.{Prints, Printed}
 use Rattle.log_replay.specs.Replays.{LineLeaves, LineEnds}
-use Rattle.log_replay.specs.Logs.{LinesThen, Next, Runs, line_number, told_text, Ended, Stopped, Carried, CutOff, Fails}
+use Rattle.log_replay.specs.Logs.{LinesThen, Next, Runs, line_number, told_text, Ended, Stopped, SoFar, CutOff, Fails}
 
 -- what a line prints at each clock kind
 abbrev pub tree_lines : List ℕ → List Word → Result (Answer TreePen TreeClock) Fault → Option (List ℕ)
@@ -100,11 +100,11 @@ module _ (tree_text : List ℕ → List Word → Result (Answer TreePen TreeCloc
   pub ended : (first : Option AnyYard) (text rest : Option (List ℕ)) (y : Option AnyYard) (n : ℕ) (old new : Option (List ℕ)) → Going first text rest y n old new → IsAtEnd rest → Ended tree_text vector_text text first y old new
   ended first text rest y n old new g end = record { lines = g.lines; whole = all_read text rest g.lines end g.reads; run = g.run }
 
-  carried : (first : Option AnyYard) (text rest : Option (List ℕ)) (y : Option AnyYard) (n : ℕ) (old new : Option (List ℕ)) (g : Going first text rest y n old new) → Carried tree_text vector_text text first y g.lines old new
+  carried : (first : Option AnyYard) (text rest : Option (List ℕ)) (y : Option AnyYard) (n : ℕ) (old new : Option (List ℕ)) (g : Going first text rest y n old new) → SoFar tree_text vector_text text first y g.lines old new
   carried first text rest y n old new g = record { begins = so_far text rest g.lines g.reads; run = g.run }
 
-  pub unread : (first : Option AnyYard) (text rest : Option (List ℕ)) (y : Option AnyYard) (n : ℕ) (old new : Option (List ℕ)) (k : ℕ) (error : Error) → Going first text rest y n old new → k ≡ min (n + 1) (2 ^ 64 - 1) → Fails tree_text vector_text text first y (Unread k error) old new
-  unread first text rest y n old new k error g e = (g.lines, carried first text rest y n old new g, number_is first text rest y n old new k g e)
+  pub unreadable : (first : Option AnyYard) (text rest : Option (List ℕ)) (y : Option AnyYard) (n : ℕ) (old new : Option (List ℕ)) (k : ℕ) (what : List ℕ) (told : String Global) → Going first text rest y n old new → k ≡ min (n + 1) (2 ^ 64 - 1) → string_bytes told ≡ told_text k what → Fails tree_text vector_text text first y (Unreadable told) old new
+  unreadable first text rest y n old new k what told g e is = (g.lines, what, carried first text rest y n old new g, is ∙ ap (λ i. told_text i what) (number_is first text rest y n old new k g e))
 
   pub stopped : (first : Option AnyYard) (text rest : Option (List ℕ)) (y : Option AnyYard) (n : ℕ) (old mid : Option (List ℕ)) (l : List ℕ) (rest' : Option (List ℕ)) (z : Option AnyYard) (m : Mistake) (k : ℕ) (new : Option (List ℕ)) (told : List ℕ) →
       Going first text rest y n old mid → Read rest l rest' → LineEnds l y m → z ≡ y → new ≡ mid → k ≡ min (n + 1) (2 ^ 64 - 1) → told ≡ told_text k (mistake_text m) → Stopped tree_text vector_text text first z told old new
@@ -122,7 +122,7 @@ module _ (tree_text : List ℕ → List Word → Result (Answer TreePen TreeCloc
   pub cut_short : (first : Option AnyYard) (text rest : Option (List ℕ)) (y : Option AnyYard) (n : ℕ) (old mid : Option (List ℕ)) (z : Option AnyYard) (new : Option (List ℕ)) → Going first text rest y n old mid → z ≡ y → new ≡ mid → Fails tree_text vector_text text first z OutOfMemory old new
   cut_short first text rest y n old mid z new g stays nothing = (
     g.lines,
-    subst (λ (w : Option AnyYard). Carried tree_text vector_text text first w g.lines old new) (sym stays) (subst (λ (o : Option (List ℕ)). Carried tree_text vector_text text first y g.lines old o) (sym nothing) (carried first text rest y n old mid g)),
+    subst (λ (w : Option AnyYard). SoFar tree_text vector_text text first w g.lines old new) (sym stays) (subst (λ (o : Option (List ℕ)). SoFar tree_text vector_text text first y g.lines old o) (sym nothing) (carried first text rest y n old mid g)),
   )
 
   -- a line was carried out, and its answer was not written whole

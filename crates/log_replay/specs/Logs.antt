@@ -11,9 +11,11 @@
 -- Stopped told             each line before some line was carried out; that line is no call, which is
 --                          what is told, with its number
 -- Replays told             what comes of a log of which this is told, or nothing
+-- SoFar ls                 the lines were carried out and answered, and the rest of the text comes after them
+-- CutOff                   so were some lines, and the one after them was carried out and could not be
+--                          answered whole
 -- Fails error              what comes of a log that ends in this error: some lines were carried out and
---                          answered; of a line that could not be read the number is theirs and one more;
---                          a line that could not be answered whole is the one after them
+--                          answered; of one that could not be read it is told that it is the one after them
 --
 -- `text` is the text of the log, where it is known. The log finds the yard y and leaves the yard z; `old`
 -- and `new` are what is known of the output before and afterwards. tree_text and vector_text say what a
@@ -21,6 +23,7 @@
 use Rattle.std.specs.Prelude.{◌≡◌, ◌+◌, ◌-◌, ◌^◌, ◌<◌, min, codes, ℕ, List, [], ◌∷◌, ◌++◌, length, Some, None, Option, Result, IfSome}
 use Rattle.std.specs.Fmt.{decimal}
 use Rattle.std.specs.Io.BufRead.{first_line, drop_through}
+use Rattle.std.specs.String.{string_bytes}
 use Rattle.clock.specs.declared.faults.Fault.{Fault}
 use Rattle.tree_clock.specs.declared.clocks.TreeClock.{TreeClock}
 use Rattle.tree_clock.specs.declared.pens.TreePen.{TreePen}
@@ -31,7 +34,7 @@ use Rattle.season_log.specs.declared.mistakes.Mistake.{Mistake}
 use Rattle.season_log.specs.Mistakes.{mistake_text}
 use Rattle.season_log.specs.Words.{Word}
 use Rattle.log_replay.specs.declared.errors.LogError.{LogError}
-use Rattle.log_replay.specs.declared.errors.LogError.TheVariants.{Unread, OutOfMemory, Unanswered}
+use Rattle.log_replay.specs.declared.errors.LogError.TheVariants.{Unreadable, OutOfMemory, Unanswered}
 use Rattle.log_replay.specs.declared.kinds.AnyYard.{AnyYard}
 use Rattle.log_replay.specs.Outcomes.{Prints, Printed}
 use Rattle.log_replay.specs.Replays.{LineLeaves, LineEnds}
@@ -70,7 +73,7 @@ module _ (tree_text : List ℕ → List Word → Result (Answer TreePen TreeCloc
       pub is : told ≡ told_text (line_number (length lines)) (mistake_text mistake)
 
     -- the lines were carried out and answered, and what is left of the text comes after them
-    pub record Carried (lines : List (List ℕ)) (old new : Option (List ℕ)) : Type 0 where
+    pub record SoFar (lines : List (List ℕ)) (old new : Option (List ℕ)) : Type 0 where
       pub begins : IfSome text (λ t. (rest : List ℕ) × LinesThen t lines rest)
       pub run : Runs y lines z old new
 
@@ -90,6 +93,7 @@ module _ (tree_text : List ℕ → List Word → Result (Answer TreePen TreeCloc
     pub leaves : LineLeaves tree_text vector_text line yard z (Some printed)
 
   abbrev pub Fails : Option (List ℕ) → Option AnyYard → Option AnyYard → LogError → Option (List ℕ) → Option (List ℕ) → Type 0
-  Fails text y z (Unread number error) old new = (lines : List (List ℕ)) × Carried text y z lines old new × (number ≡ line_number (length lines))
-  Fails text y z OutOfMemory old new = (lines : List (List ℕ)) × Carried text y z lines old new
+  Fails text y z (Unreadable told) old new =
+      (lines : List (List ℕ)) × (what : List ℕ) × SoFar text y z lines old new × (string_bytes told ≡ told_text (line_number (length lines)) what)
+  Fails text y z OutOfMemory old new = (lines : List (List ℕ)) × SoFar text y z lines old new
   Fails text y z (Unanswered error) old new = CutOff text y z old

@@ -8,7 +8,7 @@
 --   Ok                   it leaves what `leaves` says and prints p, and that is written
 --   Mistake m            m tells what is wrong, the yard stays, and nothing is written
 --   OutOfMemory          the yard stays, and nothing is written
---   Unanswered           it leaves what `leaves` says; nothing is claimed of how much of its answer was written
+--   Unanswered           it leaves what `leaves` says; of the output nothing is claimed
 use Rattle.std.specs.Prelude.{◌≡◌, ℕ, List, Some, None, Option, Ok, Err, Result, IfSome}
 use Rattle.std.specs.Io.KnownBytes.{Appends}
 use Rattle.season_log.specs.declared.mistakes.Mistake.{Mistake}

@@ -21,9 +21,9 @@ pub enum LineError<'a> {
 /// Why a log is not carried out to its end, nor to a line that is no call.
 #[derive(Drop)]
 pub enum LogError {
-    /// The line of this number could not be read. The lines before it were
-    /// carried out and answered.
-    Unread { number: u64, error: io::Error },
+    /// A line could not be read: what is told of it, with its number. The lines
+    /// before it were carried out and answered.
+    Unreadable(String),
     /// Memory ran out. The lines before were carried out and answered.
     OutOfMemory,
     /// The lines before were carried out and answered, and one more was carried

@@ -29,7 +29,7 @@ pub enum AnyYard {
 
 /// What an open leaves where it was carried out: the yard, or none after a
 /// refusal, and whether its answer could be written.
-pub type Opened<Y> = (Option<Y>, io::Result<()>);
+pub type AfterOpen<Y> = (Option<Y>, io::Result<()>);
 
 impl AnyYard {
     /// Opens the yard that the words after `open` ask for, and writes the answer.
@@ -38,7 +38,7 @@ impl AnyYard {
         alloc: Global,
         arguments: &[&'a str],
         out: &mut W,
-    ) -> Result<Opened<AnyYard>, LineError<'a>>
+    ) -> Result<AfterOpen<AnyYard>, LineError<'a>>
         ensures opened { let trees = line_text ⟦<Fault as Display>⟧.output
             ⟦<TreePen as Display>⟧.output ⟦<TreeClock as Display>⟧.output in
             let vectors = line_text ⟦<Fault as Display>⟧.output
@@ -111,7 +111,7 @@ fn open<'a, C: Clock + Display, P: Payload + FromStr, W: Write>(
     asked: &Opening<'a, '_>,
     arguments: &[&'a str],
     out: &mut W,
-) -> Result<Opened<Yard<C, P>>, LineError<'a>>
+) -> Result<AfterOpen<Yard<C, P>>, LineError<'a>>
 where
     C::Pen: Display,
     PayloadError: From<P::Err>,

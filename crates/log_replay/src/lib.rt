@@ -14,6 +14,6 @@ mod logs;
 mod replays;
 
 pub use errors::{LineError, LogError};
-pub use kinds::{AnyYard, Opened};
+pub use kinds::{AfterOpen, AnyYard};
 pub use logs::replay_log;
 pub use replays::Replay;

@@ -1,14 +1,12 @@
 ghost use Rattle.std.specs.Prelude.{◌≡◌, IfOk, IfErr};
 ghost use Rattle.std.specs.Option.{option_map};
 ghost use Rattle.std.specs.String.{string_bytes};
-ghost use Rattle.season_log.specs.Mistakes.{mistake_text};
 ghost use Rattle.log_replay.specs.Lines.{line_text};
 ghost use Rattle.log_replay.specs.Logs.{told_text, Replays, Fails};
 
 use crate::errors::{LineError, LogError};
 use crate::replays::Replay;
 use clock::Fault;
-use season_log::Mistake;
 use std::alloc::{AllocError, Global};
 use std::fmt::Display;
 use std::io;
@@ -18,7 +16,8 @@ use tree_clock::{TreeClock, TreePen};
 use vector_clock::{VectorClock, VectorPen};
 
 /// Replays the log to standard output, and stops at the first line that is no
-/// call: what is told of it goes to standard error, and the status is 1.
+/// call, or cannot be read: what is told of it goes to standard error, and the
+/// status is 1.
 pub fn replay_log<R: BufRead + Drop>(
     rt: &(impl Print + Eprint + AllocGlobal),
     log: R,
@@ -27,9 +26,7 @@ pub fn replay_log<R: BufRead + Drop>(
     let mut out = BufWriter::new(alloc, io::writer(rt))?;
     let stopped = match Replay::new(alloc).lines(log, &mut out) {
         Ok(told) => told,
-        Err(LogError::Unread { number, error }) => Some(format!(in alloc;
-            "line {number}: {error}"
-        )?),
+        Err(LogError::Unreadable(told)) => Some(told),
         Err(LogError::OutOfMemory) => return Err(io::Error::from(io::ErrorKind::OutOfMemory)),
         Err(LogError::Unanswered(error)) => return Err(error),
     };
@@ -72,12 +69,16 @@ impl Replay {
             number = number.saturating_add(1);
             let line = match line {
                 Ok(line) => line,
-                Err(error) => return Err(LogError::Unread { number, error }),
+                Err(error) => {
+                    let what = format!(in alloc; "{error}")?;
+                    return Err(LogError::Unreadable(told(alloc, number, what.as_str())?));
+                }
             };
             match self.line(line.as_str(), out) {
                 Ok(()) => {}
                 Err(LineError::Mistake(mistake)) => {
-                    return Ok(Some(told(alloc, number, &mistake)?));
+                    let what = format!(in alloc; "{mistake}")?;
+                    return Ok(Some(told(alloc, number, what.as_str())?));
                 }
                 Err(LineError::OutOfMemory) => return Err(LogError::OutOfMemory),
                 Err(LineError::Unanswered(error)) => return Err(LogError::Unanswered(error)),
@@ -88,9 +89,8 @@ impl Replay {
 }
 
 // What is told of the line of this number, at which a log stops.
-fn told(alloc: Global, number: u64, mistake: &Mistake<'_>) -> Result<String, AllocError>
-    ensures { IfOk result (λ text.
-        string_bytes text ≡ told_text number (mistake_text mistake.now)) }
+fn told(alloc: Global, number: u64, what: &str) -> Result<String, AllocError>
+    ensures { IfOk result (λ text. string_bytes text ≡ told_text number what.now) }
 {
-    format!(in alloc; "line {number}: {mistake}")
+    format!(in alloc; "line {number}: {what}")
 }

@@ -61,7 +61,10 @@ fn a_line_that_cannot_be_read_ends_the_log(rt: HostRuntime) -> Result<(), Fail> 
     let log = b"open tree valve 1 shut\n\xff\xfe\nfork 0 0\n";
     let mut out = Vec::new(rt.alloc());
     let stopped = Replay::new(rt.alloc()).lines(log.as_slice(), &mut out);
-    assert!(rt; matches!(stopped, Err(LogError::Unread { number: 2, .. })));
+    let Err(LogError::Unreadable(told)) = stopped else {
+        return Err(Fail::from("the line was read"));
+    };
+    assert!(rt; told.as_str().starts_with("line 2: "));
     assert_eq!(rt;
         out.as_slice(),
         b"open tree valve 1 shut: ok 1 berths 1 files\n".as_slice()

@@ -76,4 +76,8 @@ norm_rules = record {
   less_triple = λ m n l r. refl;
   plus_leaf = λ m n. refl;
   plus_triple = λ m n l r. refl;
+  low_leaf = λ n. refl;
+  low_triple = λ n l r. refl;
+  top_leaf = λ n. refl;
+  top_triple = λ n l r. refl;
 }
