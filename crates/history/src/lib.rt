@@ -12,8 +12,12 @@
 
 #![tactic(auto)]
 
+mod answers;
+mod calls;
 mod histories;
 mod tables;
 
+pub use answers::Answer;
+pub use calls::{Call, Reading, Writing};
 pub use histories::history_law;
 pub use tables::{Berth, Record, Sizes, State};

@@ -17,20 +17,31 @@ use Rattle.clock.specs.declared.verdicts.Verdict.TheVariants.{Stale, Ahead, Conf
 use Rattle.clock.specs.Causes.{number_of}
 use Rattle.clock.specs.Verdicts.{byte_of}
 use Rattle.clock.specs.Meaning.{Meaning}
+use Rattle.history.specs.declared.answers.Answer.{Answer}
+use Rattle.history.specs.declared.answers.Answer.TheVariants.{Done, Judged, Reported, Pulled, Shown}
 use Rattle.history.specs.declared.tables.State.TheVariants.{Empty}
 use Rattle.history.specs.declared.tables.Berth.{Berth}
 use Rattle.history.specs.declared.tables.Record.{Record}
 use Rattle.history.specs.Tables.{Card, sizes, works, working_berth}
 use Rattle.history.specs.Checks.{Left, left, fault}
 use Rattle.history.specs.Open.{open_result}
-use Rattle.history.specs.Calls.{Call, fork, edit, judge, report, pull, settle, retire, drop, seal, Answer, leaves}
+use Rattle.history.specs.Page.{Asked}
+use Rattle.history.specs.Fork.{fork_call}
+use Rattle.history.specs.Edit.{edit_call}
+use Rattle.history.specs.Judge.{judge_call}
+use Rattle.history.specs.Report.{report_call}
+use Rattle.history.specs.Show.{show_call}
+use Rattle.history.specs.Pull.{pull_call}
+use Rattle.history.specs.Settle.{settle_call}
+use Rattle.history.specs.Retire.{retire_call}
+use Rattle.history.specs.Calls.{said}
 use Rattle.tree_rules.specs.Ids.{Id, off, on, pair}
 use Rattle.tree_rules.specs.Events.{Event, leaf, node}
 use Rattle.vector_clock.specs.declared.pens.Names.{Names}
 use Rattle.vector_clock.specs.declared.clocks.Counts.{Counts}
 
 pub data Step (Pen C : Type 0) : Type 0 where
-  step : (c : Call ℕ) → Left Pen C ℕ (Answer c) → Step Pen C
+  step : Asked ℕ → Left Pen C ℕ (Answer Pen C) → Step Pen C
 
 pub record Course (Pen C : Type 0) : Type 0 where
   pub whole : Pen
@@ -70,16 +81,13 @@ same_result test (Err c) (Err d) = same_fault c d
 abbrev pub same_card : Card → Card → Bool
 same_card x y = x.berths == y.berths && x.files == y.files
 
-abbrev pub same_answer : (c : Call ℕ) → Answer c → Answer c → Bool
-same_answer (fork card a b) x y = true
-same_answer (edit card a f p) x y = true
-same_answer (judge card a b f) x y = byte_of x == byte_of y
-same_answer (report card a b bytes) x y = x.0 == y.0 && (x.1 == y.1 && (x.2 == y.2 && (x.3 == y.3 && x.4 == y.4)))
-same_answer (pull card a b bytes) x y = x.0 == y.0 && x.1 == y.1
-same_answer (settle card a b f p) x y = true
-same_answer (retire card a b) x y = true
-same_answer (drop card a) x y = true
-same_answer (seal card) x y = true
+abbrev pub same_answer : {Pen C : Type 0} → (Pen → Pen → Bool) → (C → C → Bool) → Answer Pen C → Answer Pen C → Bool
+same_answer same_pen same_clock Done Done = true
+same_answer same_pen same_clock (Judged x) (Judged y) = byte_of x == byte_of y
+same_answer same_pen same_clock (Reported e s a c t) (Reported e' s' a' c' t') = e == e' && (s == s' && (a == a' && (c == c' && t == t')))
+same_answer same_pen same_clock (Pulled n k) (Pulled n' k') = n == n' && k == k'
+same_answer same_pen same_clock (Shown x c) (Shown y d) = same_pen x y && same_clock c d
+same_answer same_pen same_clock _ _ = false
 
 abbrev pub yard : Card
 yard = sizes 2 1
@@ -97,19 +105,20 @@ module _ {Pen C : Type 0} (k : Course Pen C) where
   -- payloads: 10 from open, 11 and 12 by edit, 13 by settle, 14 by the last edit
   abbrev pub day : List (Step Pen C)
   day =
-      step (fork yard 0 0) (left (Err (fault SameBerth (Some 0) None)) alone (copies k.blank 10 k.blank 10) [])
-      ∷ step (fork yard 0 1) (left (Ok tt) shared (copies k.blank 10 k.blank 10) [])
-      ∷ step (edit yard 0 0 11) (left (Ok tt) shared (copies k.edited_0 11 k.blank 10) [])
-      ∷ step (judge yard 0 1 0) (left (Ok Ahead) shared (copies k.edited_0 11 k.blank 10) [])
-      ∷ step (edit yard 1 0 12) (left (Ok tt) shared (copies k.edited_0 11 k.edited_1 12) [])
-      ∷ step (judge yard 0 1 0) (left (Ok Conflict) shared (copies k.edited_0 11 k.edited_1 12) [])
-      ∷ step (report yard 0 1 (9 ∷ 9 ∷ [])) (left (Ok (0, 0, 0, 1, 0)) shared (copies k.edited_0 11 k.edited_1 12) (3 ∷ 9 ∷ []))
-      ∷ step (settle yard 0 1 0 13) (left (Ok tt) shared (copies k.edited_0 11 k.settled 13) [])
-      ∷ step (judge yard 0 1 0) (left (Ok Stale) shared (copies k.edited_0 11 k.settled 13) [])
-      ∷ step (settle yard 0 1 0 15) (left (Err (fault NoConflict (Some 1) (Some 0))) shared (copies k.edited_0 11 k.settled 13) [])
-      ∷ step (pull yard 1 0 (9 ∷ [])) (left (Ok (1, 0)) shared (copies k.settled 13 k.settled 13) (1 ∷ []))
-      ∷ step (retire yard 1 0) (left (Ok tt) alone (copies k.settled 13 k.settled 13) [])
-      ∷ step (edit yard 0 0 14) (left (Ok tt) alone (copies k.last 14 k.settled 13) [])
+      step (fork_call yard 0 0) (left (Err (fault SameBerth (Some 0) None)) alone (copies k.blank 10 k.blank 10) [])
+      ∷ step (fork_call yard 0 1) (left (Ok Done) shared (copies k.blank 10 k.blank 10) [])
+      ∷ step (edit_call yard 0 0 11) (left (Ok Done) shared (copies k.edited_0 11 k.blank 10) [])
+      ∷ step (judge_call yard 0 1 0) (left (Ok (Judged Ahead)) shared (copies k.edited_0 11 k.blank 10) [])
+      ∷ step (edit_call yard 1 0 12) (left (Ok Done) shared (copies k.edited_0 11 k.edited_1 12) [])
+      ∷ step (judge_call yard 0 1 0) (left (Ok (Judged Conflict)) shared (copies k.edited_0 11 k.edited_1 12) [])
+      ∷ step (report_call yard 0 1 (9 ∷ 9 ∷ [])) (left (Ok (Reported 0 0 0 1 0)) shared (copies k.edited_0 11 k.edited_1 12) (3 ∷ 9 ∷ []))
+      ∷ step (settle_call yard 0 1 0 13) (left (Ok Done) shared (copies k.edited_0 11 k.settled 13) [])
+      ∷ step (show_call yard 1 0) (left (Ok (Shown k.upper k.settled)) shared (copies k.edited_0 11 k.settled 13) [])
+      ∷ step (judge_call yard 0 1 0) (left (Ok (Judged Stale)) shared (copies k.edited_0 11 k.settled 13) [])
+      ∷ step (settle_call yard 0 1 0 15) (left (Err (fault NoConflict (Some 1) (Some 0))) shared (copies k.edited_0 11 k.settled 13) [])
+      ∷ step (pull_call yard 1 0 (9 ∷ [])) (left (Ok (Pulled 1 0)) shared (copies k.settled 13 k.settled 13) (1 ∷ []))
+      ∷ step (retire_call yard 1 0) (left (Ok Done) alone (copies k.settled 13 k.settled 13) [])
+      ∷ step (edit_call yard 0 0 14) (left (Ok Done) alone (copies k.last 14 k.settled 13) [])
       ∷ []
 
 module _ {Pen C : Type 0} (m : Meaning Pen C) (same_pen : Pen → Pen → Bool) (same_clock : C → C → Bool) where
@@ -125,7 +134,7 @@ module _ {Pen C : Type 0} (m : Meaning Pen C) (same_pen : Pen → Pen → Bool) 
   -- a step starts from the tables that the step before it must leave
   abbrev pub steps_hold : List (Step Pen C) → List (Berth Pen) → List (Record C ℕ) → Bool
   steps_hold [] bs cs = true
-  steps_hold (step c l ∷ steps) bs cs = same_left (same_answer c) (leaves m nat_eq c bs cs) l && steps_hold steps l.berths l.copies
+  steps_hold (step q l ∷ steps) bs cs = same_left (same_answer same_pen same_clock) (said m nat_eq q bs cs) l && steps_hold steps l.berths l.copies
 
   abbrev pub yard_holds : Course Pen C → Bool
   yard_holds k =

@@ -10,9 +10,9 @@ use Rattle.history.specs.declared.tables.Berth.{Berth}
 use Rattle.history.specs.declared.tables.Record.{Record}
 use Rattle.history.specs.Tables.{Made}
 use Rattle.history.specs.Checks.{Left}
-use Rattle.history.specs.Calls.{Call, Answer, leaves}
-use Rattle.history.specs.History.{Yard, yard, called, all_called, after, new_yard}
-use Rattle.history.specs.Law.{LawOf}
+use Rattle.history.specs.Page.{Asked}
+use Rattle.history.specs.Calls.{page_of, Value, leaves}
+use Rattle.history.specs.Law.{Yard, yard, called, all_called, after, new_yard, LawOf}
 use Rattle.history.specs.Open.{open_result}
 use Rattle.season.specs.Replays.{Replayed}
 
@@ -20,7 +20,7 @@ yes-prop : (b : Bool) → IsProp (Yes b)
 yes-prop b = Prim.hlevel props
 
 module _ {Pen C P : Type 0} (m : Meaning Pen C) (alike : P → P → Bool) where
-  one_more : (calls : List (Call P)) (c : Call P) (y : Yard Pen C P) → all_called m alike (calls ++ (c ∷ [])) y ≡ called m alike c (all_called m alike calls y)
+  one_more : (calls : List (Asked P)) (c : Asked P) (y : Yard Pen C P) → all_called m alike (calls ++ (c ∷ [])) y ≡ called m alike c (all_called m alike calls y)
   one_more [] c y = refl
   one_more (d ∷ more) c y = one_more more c (called m alike d y)
 
@@ -34,10 +34,10 @@ module _ {Pen C P : Type 0} (m : Meaning Pen C) (alike : P → P → Bool) where
       clocks = λ i x e. ∥∥₁_elim r (yes-prop _) (λ q. (made_by law q).clocks i x e);
     }
 
-    after_call : (c : Call P) → Replayed m alike bs cs → let l = leaves m alike c bs cs in Replayed m alike l.berths l.copies
+    after_call : (c : Asked P) → Replayed m alike bs cs → let l = leaves m alike c bs cs in Replayed m alike l.berths l.copies
     after_call c r = record {
       payloads = r.payloads;
-      history = after c (leaves m alike c bs cs).answer r.history;
+      history = after (page_of m c) (leaves m alike c bs cs).answer r.history;
       reached = record {
         berths = r.reached.berths;
         copies = r.reached.copies;
@@ -49,11 +49,11 @@ module _ {Pen C P : Type 0} (m : Meaning Pen C) (alike : P → P → Bool) where
     }
 
     -- what a call leaves is what a call more leads to
-    pub led_on : (c : Call P) (l : Left Pen C P (Answer c)) → l ≡ leaves m alike c bs cs → ∥ Replayed m alike bs cs ∥₁ → ∥ Replayed m alike l.berths l.copies ∥₁
-    led_on c l e r = ∥∥₁_map r (λ q. subst (λ (k : Left Pen C P (Answer c)). Replayed m alike k.berths k.copies) (sym e) (after_call c q))
+    pub led_on : (c : Asked P) (l : Left Pen C P (Value m c)) → l ≡ leaves m alike c bs cs → ∥ Replayed m alike bs cs ∥₁ → ∥ Replayed m alike l.berths l.copies ∥₁
+    led_on c l e r = ∥∥₁_map r (λ q. subst (λ (k : Left Pen C P (Value m c)). Replayed m alike k.berths k.copies) (sym e) (after_call c q))
 
   -- the same, of tables held as vectors: of what a call wrote, both or one
-  module _ {Z : Type 0} (bs : Vec (Berth Pen) Z) (cs : Vec (Record C P) Z) (c : Call P) (l : Left Pen C P (Answer c)) (e : l ≡ leaves m alike c bs.items cs.items) (r : ∥ Replayed m alike bs.items cs.items ∥₁) where
+  module _ {Z : Type 0} (bs : Vec (Berth Pen) Z) (cs : Vec (Record C P) Z) (c : Asked P) (l : Left Pen C P (Value m c)) (e : l ≡ leaves m alike c bs.items cs.items) (r : ∥ Replayed m alike bs.items cs.items ∥₁) where
     led : ∥ Replayed m alike l.berths l.copies ∥₁
     led = led_on bs.items cs.items c l e r
 

@@ -1,4 +1,3 @@
 pub mod Calls
 pub mod Verdicts
-pub mod Shown
 pub mod Opened

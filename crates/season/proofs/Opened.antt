@@ -1,5 +1,5 @@
 -- A season that is opened within the limits: it is not refused, and what it leaves is led to by no call.
-use Rattle.std.proofs.Common.{rules, ◌≡◌, ℕ, ◌*◌, Bool, true, not, List, [], length, Ok, Err, None, Some, refl, ap, sym, subst, ◌∙◌, arith}
+use Rattle.std.proofs.Common.{rules, ◌≡◌, ℕ, ◌*◌, Bool, true, not, List, [], length, Ok, Err, None, Some, Option, refl, ap, sym, subst, ◌∙◌, arith}
 use Rattle.std.specs.Prelude.{Vec}
 use Rattle.std.specs.Vec.{with_items}
 use Rattle.std.proofs.lemmas.List.{with_items_is}
@@ -8,14 +8,19 @@ use Rattle.clock.specs.Meaning.{Meaning}
 use Rattle.history.specs.declared.tables.Berth.{Berth}
 use Rattle.history.specs.declared.tables.Record.{Record}
 use Rattle.history.specs.Tables.{Card}
-use Rattle.history.specs.Checks.{Left, left, fault, wrong_sizes, sizes_fit}
+use Rattle.history.specs.Checks.{Left, left, unless, fault, wrong_sizes, sizes_fit}
 use Rattle.history.specs.Open.{open_result, card_of}
-use Rattle.history.specs.History.{new_yard, start}
+use Rattle.history.specs.History.{start}
+use Rattle.history.specs.Law.{new_yard}
 use Rattle.season.specs.Opens.{within}
 use Rattle.season.specs.Replays.{Replayed}
-use Rattle.season.proofs.Shown.{refused_is}
 use Rattle.clock.specs.Answers.{due}
 use Rattle.clock.specs.declared.causes.Cause.TheVariants.{Sizes}
+
+-- what a refusal says of the check that was due
+refused_is : {Pen C P A : Type 0} (bs : List (Berth Pen)) (cs : List (Record C P)) (done : Left Pen C P A) (o : Option Fault) (x : Fault) (w : A) → done.answer ≡ Ok w → Err x ≡ (unless bs cs [] o done).answer → o ≡ Some x
+refused_is bs cs done None x w d e = absurd (search (rules, e, d))
+refused_is bs cs done (Some y) x w d e = search (rules, e)
 
 module _ {Pen C P : Type 0} (m : Meaning Pen C) (payloads : List P) where
   fits : (bs : List (Berth Pen)) (cs : List (Record C P)) → within (length bs) (length payloads) ≡ true → length cs ≡ length bs * length payloads → sizes_fit (card_of bs payloads) bs cs ≡ true

@@ -2,7 +2,7 @@
 --
 -- held card bs cs       the season of this card and these tables
 -- left_in r h bytes     a call was answered r, and left this season and this buffer
--- leaves_in m alike h c what the call is answered and leaves in the season h
+-- leaves_in m alike h q what the call is answered and leaves in the season h
 use Rattle.std.specs.Prelude.{ℕ, Bool, List, Result}
 use Rattle.clock.specs.declared.faults.Fault.{Fault}
 use Rattle.clock.specs.Meaning.{Meaning}
@@ -10,7 +10,8 @@ use Rattle.history.specs.declared.tables.Berth.{Berth}
 use Rattle.history.specs.declared.tables.Record.{Record}
 use Rattle.history.specs.Tables.{Card}
 use Rattle.history.specs.Checks.{Left, left}
-use Rattle.history.specs.Calls.{Call, Answer, leaves}
+use Rattle.history.specs.Page.{Asked}
+use Rattle.history.specs.Calls.{Value, leaves}
 
 pub record Held (Pen C P : Type 0) : Type 0 where
   pub card : Card
@@ -24,5 +25,5 @@ module _ {Pen C P : Type 0} where
   abbrev pub left_in : {A : Type 0} → Result A Fault → Held Pen C P → List ℕ → Left Pen C P A
   left_in r h bytes = left r h.berths h.copies bytes
 
-  abbrev pub leaves_in : Meaning Pen C → (P → P → Bool) → Held Pen C P → (c : Call P) → Left Pen C P (Answer c)
-  leaves_in m alike h c = leaves m alike c h.berths h.copies
+  abbrev pub leaves_in : (m : Meaning Pen C) → (P → P → Bool) → Held Pen C P → (q : Asked P) → Left Pen C P (Value m q)
+  leaves_in m alike h q = leaves m alike q h.berths h.copies

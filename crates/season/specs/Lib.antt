@@ -1,4 +1,3 @@
 pub mod Held
 pub mod Replays
 pub mod Opens
-pub mod Shows

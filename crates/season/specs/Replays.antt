@@ -8,8 +8,8 @@ use Rattle.clock.specs.declared.verdicts.Verdict.{Verdict}
 use Rattle.clock.specs.Meaning.{Meaning}
 use Rattle.history.specs.declared.tables.Berth.{Berth}
 use Rattle.history.specs.declared.tables.Record.{Record}
-use Rattle.history.specs.History.{History, yard, Reached}
-use Rattle.history.specs.Law.{Compares, ComparesByte}
+use Rattle.history.specs.History.{History, Compares, ComparesByte}
+use Rattle.history.specs.Law.{yard, Reached}
 use Rattle.season.specs.Held.{Held}
 
 module _ {Pen C P : Type 0} (m : Meaning Pen C) (alike : P → P → Bool) where

@@ -1,14 +1,15 @@
 ghost use Rattle.std.specs.Prelude.{◌≡◌, [], IfOk, OnOk};
-ghost use Rattle.history.specs.Calls.{judge as judge_call, report as report_call};
+ghost use Rattle.history.specs.Judge.{judge_call};
+ghost use Rattle.history.specs.Report.{report_call};
+ghost use Rattle.history.specs.Show.{show_call};
 ghost use Rattle.season.specs.Held.{left_in, leaves_in};
 ghost use Rattle.season.specs.Replays.{Behind, EachBehind};
-ghost use Rattle.season.specs.Shows.{show_result};
 
 use crate::seasons::Season;
 use clock::{Clock, Fault, Verdict};
 use history::Sizes;
 use payload::Payload;
-use yard::{Card, judge, report};
+use yard::{Card, judge, report, show};
 
 impl<K: Card, C: Clock, P: Payload> Season<K, C, P> {
     /// How many berths and files the yard has.
@@ -42,13 +43,11 @@ impl<K: Card, C: Clock, P: Payload> Season<K, C, P> {
         report(&self.card, &self.berths, &self.copies, bytes, a, b)
     }
 
-    /// The pen of berth a and the clock of its copy of file f. Refused as `judge`
-    /// is on that copy against itself.
+    /// The pen of berth a and the clock of its copy of file f.
     pub fn show(&self, a: usize, f: usize) -> Result<(C::Pen, C), Fault>
-        ensures result { result ≡ show_result C.meaning self.now a f }
+        ensures result { left_in result self.now [] ≡ leaves_in C.meaning P.same self.now (show_call self.now.card a f) }
     {
-        let _ = self.judge(a, a, f)?;
-        let files = self.card.files();
-        Ok((self.berths[a].pen, self.copies[a * files + f].clock))
+        self.law();
+        show(&self.card, &self.berths, &self.copies, a, f)
     }
 }

@@ -1,5 +1,10 @@
 ghost use Rattle.std.specs.Prelude.{◌≡◌, [], OnOk};
-ghost use Rattle.history.specs.Calls.{fork as fork_call, edit as edit_call, pull as pull_call, settle as settle_call, retire as retire_call, drop as drop_call};
+ghost use Rattle.history.specs.Fork.{fork_call};
+ghost use Rattle.history.specs.Edit.{edit_call};
+ghost use Rattle.history.specs.Pull.{pull_call};
+ghost use Rattle.history.specs.Settle.{settle_call};
+ghost use Rattle.history.specs.Retire.{retire_call};
+ghost use Rattle.history.specs.Drop.{drop_call};
 ghost use Rattle.season.specs.Held.{left_in, leaves_in};
 ghost use Rattle.season.specs.Replays.{EachBehind};
 

@@ -1,4 +1,4 @@
-ghost use Rattle.yard_checks.specs.Entries.{Pens, Clocks};
+ghost use Rattle.yard.specs.Entries.{Pens, Clocks};
 
 use crate::samples::Sample;
 use anyhow::Result;

@@ -30,8 +30,41 @@
 
 #![tactic(auto)]
 
-pub use yard_cards::{Card, OpenCard, SealedCard, blank_berth, blank_copy, open, seal};
-pub use yard_editing::{edit, settle};
-pub use yard_forking::{drop, fork};
-pub use yard_merging::{pull, retire};
-pub use yard_reading::{judge, report};
+mod blanks;
+mod cards;
+mod carrying;
+mod checks;
+mod counting;
+mod dropping;
+mod editing;
+mod forking;
+mod judging;
+mod open_card;
+mod opening;
+mod places;
+mod pulling;
+mod reporting;
+mod retiring;
+mod sealed_card;
+mod sealing;
+mod settling;
+mod showing;
+mod taking;
+mod telling;
+
+pub use blanks::{blank_berth, blank_copy};
+pub use cards::Card;
+pub use carrying::{read, write};
+pub use dropping::drop;
+pub use editing::edit;
+pub use forking::fork;
+pub use judging::judge;
+pub use open_card::OpenCard;
+pub use opening::open;
+pub use pulling::pull;
+pub use reporting::report;
+pub use retiring::retire;
+pub use sealed_card::SealedCard;
+pub use sealing::seal;
+pub use settling::settle;
+pub use showing::show;

@@ -29,9 +29,9 @@ pub returns-in_err-pen-in-Show : goal.returns-in_err-pen-in-Show
 returns-in_err-pen-in-Show g c =
     let s = c.args.season.now in
     let e : c.from_residual-in_err-pen-in-Show.result ≡ Err c.in_err-pen-in-Show.field-0.0 = search rules in
-    e ∙ (ap (in_form (λ x. Shown x.0 x.1)) c.in_err-pen-in-Show.ensures.result ∙ ap (read_answer g.C.Clock.meaning g.P.Payload.same s) (sym c.in-Show.is))
+    e ∙ (ap (λ l. in_form (λ x. Shown x.0 x.1) l.answer) c.in_err-pen-in-Show.ensures.result ∙ ap (read_answer g.C.Clock.meaning g.P.Payload.same s) (sym c.in-Show.is))
 
 pub returns-in_ok-pen-in-Show : goal.returns-in_ok-pen-in-Show
 returns-in_ok-pen-in-Show g c =
     let s = c.args.season.now in
-    ap (in_form (λ x. Shown x.0 x.1)) c.in_ok-pen-in-Show.ensures.result ∙ ap (read_answer g.C.Clock.meaning g.P.Payload.same s) (sym c.in-Show.is)
+    ap (λ l. in_form (λ x. Shown x.0 x.1) l.answer) c.in_ok-pen-in-Show.ensures.result ∙ ap (read_answer g.C.Clock.meaning g.P.Payload.same s) (sym c.in-Show.is)

@@ -1,6 +1,7 @@
 use Rattle.std.proofs.Common.{rules, ◌≡◌, length, []}
 use Rattle.history.specs.Checks.{left}
-use Rattle.history.specs.Calls.{fork, leaves}
+use Rattle.history.specs.Fork.{fork_call}
+use Rattle.history.specs.Calls.{leaves}
 use Rattle.season.proofs.Calls.{both_led}
 use Rattle.season.proofs.writing.Season+OpenCard+C+P.fork.Goals as goal
 
@@ -9,7 +10,7 @@ invariant_of-self g c =
     let m = g.C.Clock.meaning in
     let same = g.P.Payload.same in
     let s = c.self.inside in
-    let call = fork s.card c.args.a c.args.b in
+    let call = fork_call s.card c.args.a c.args.b in
     let l = left c.fork.result c.fork.new.berths c.fork.new.copies [] in
     let e : l ≡ leaves m same call s.berths.items s.copies.items = search rules in
     let berths : length c.fork.new.berths ≡ s.berths.len = search rules in

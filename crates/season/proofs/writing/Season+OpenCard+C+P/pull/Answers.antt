@@ -1,6 +1,7 @@
 use Rattle.std.proofs.Common.{rules, ◌≡◌, length, refl, subst, OnOk}
 use Rattle.history.specs.Checks.{left}
-use Rattle.history.specs.Calls.{pull, leaves}
+use Rattle.history.specs.Pull.{pull_call}
+use Rattle.history.specs.Calls.{leaves}
 use Rattle.history.specs.Law.{LawfulCall}
 use Rattle.season.specs.Held.{Held}
 use Rattle.season.specs.Replays.{EachBehind}
@@ -13,7 +14,7 @@ invariant_of-self g c =
     let m = g.C.Clock.meaning in
     let same = g.P.Payload.same in
     let s = c.self.inside in
-    let call = pull s.card c.args.a c.args.b c.args.bytes.now in
+    let call = pull_call s.card c.args.a c.args.b c.args.bytes.now in
     let l = left c.pull.result s.berths.items c.pull.new.copies c.pull.new.bytes in
     let e : l ≡ leaves m same call s.berths.items s.copies.items = search rules in
     let copies : length c.pull.new.copies ≡ s.copies.len = search rules in
@@ -25,5 +26,5 @@ returns-clause-edits g c =
     let same = g.P.Payload.same in
     let s = c.self.inside in
     let bytes = c.args.bytes.now in
-    let law = moved (λ bs cs. LawfulCall m same (pull s.card c.args.a c.args.b bytes) bs cs (left c.pull.result bs c.pull.new.copies c.pull.new.bytes)) c.deref.ensures.value c.deref_mut.ensures.value (c.pull.ensures.history same) in
+    let law = moved (λ bs cs. LawfulCall m same (pull_call s.card c.args.a c.args.b bytes) bs cs (left c.pull.result bs c.pull.new.copies c.pull.new.bytes)) c.deref.ensures.value c.deref_mut.ensures.value (c.pull.ensures.history same) in
     subst (λ (h : Held _ _ _). OnOk c.pull.result ∥ EachBehind m same h c.args.b c.args.a c.pull.new.bytes ∥₁) c.self.view_is (pulled_behind m same s.berths.items s.copies.items s.card c.args.a c.args.b c.self.invariant bytes c.pull.result (left c.pull.result s.berths.items c.pull.new.copies c.pull.new.bytes) refl law)

@@ -1,0 +1,13 @@
+use Rattle.std.proofs.Common.{◌∙◌}
+use Rattle.history.specs.Judge.{judge_result}
+use Rattle.history.specs.Judge.{judge_call}
+use Rattle.yard.proofs.Clauses.{lawful_from}
+use Rattle.yard.proofs.judging.judge.Goals as goal
+
+pub returns : goal.returns
+returns g c =
+    let e = c.judge_copies.ensures ∙ (λ k. judge_result g.C.Clock.meaning (c.sizes.ensures k) c.args.berths.now c.args.copies.now c.args.a c.args.b c.args.f) in
+    record {
+      result = e;
+      history = λ alike. lawful_from g.C.Clock.meaning g.met.C.Clock.sound alike (judge_call (g.K.Card.sizes c.args.card.now) c.args.a c.args.b c.args.f) c.args.berths.now c.args.copies.now _ e;
+    }

@@ -1,0 +1,79 @@
+use Rattle.std.proofs.Common.{◌≡◌, ◌<◌, ◌≤◌, List, sym, refl, ap, ◌∙◌, subst, ⊎_elim, arith, rules, length-set}
+use Rattle.clock.specs.declared.verdicts.Verdict.TheVariants.{Stale, Conflict}
+use Rattle.history.specs.declared.tables.Record.{Record}
+use Rattle.history.specs.Tables.{judged, reported, is_stale, is_conflict}
+use Rattle.history.proofs.Lookups.{place_within}
+use Rattle.yard.specs.Entries.{Clocks}
+use Rattle.yard.proofs.Verdicts.{told_more, reported-none, counts_told, told_stale, told_conflict}
+use Rattle.yard.proofs.Taken.{taking, taking-none, taking_all, taking_more, taking_verdict, took_clocks}
+use Rattle.yard.proofs.pulling.pull_files.Goals as goal
+
+pub loop-f-init : goal.loop-f-init
+loop-f-init g c =
+    let F = c.args.sizes.files in
+    let m = g.C.Clock.meaning in
+    let v = judged m F c.args.copies.now c.args.b c.args.a in
+    let a : c.into_iter-f-iterator.result.iter.a ≡ c.row.result = search rules in
+    let b : c.into_iter-f-iterator.result.iter.b ≡ c.row-2.result = search rules in
+    let none : c.into_iter-f-iterator.result.count ≡ 0 = search rules in (
+      search rules,
+      search rules,
+      omega (arith, none, ap (λ r. r.start) a, c.row.ensures.start),
+      omega (arith, ap (λ r. r.end) a, c.row.ensures.end),
+      omega (arith, none, ap (λ r. r.start) b, c.row-2.ensures.start),
+      omega (arith, ap (λ r. r.end) b, c.row-2.ensures.end),
+      omega (arith, none),
+      taking-none m F c.args.a c.args.b c.args.copies.now c.requires.ready.0.some_files ∙ ap (λ k. taking m F c.args.a c.args.b c.args.copies.now k) (sym none),
+      c.requires.made,
+      refl,
+      reported-none v c.args.bytes.now ∙ ap (λ k. reported k v c.args.bytes.now) (sym none),
+      refl,
+    )
+
+pub loop-f-preserved : goal.loop-f-preserved
+loop-f-preserved g c =
+    let F = c.args.sizes.files in
+    let m = g.C.Clock.meaning in
+    let cs = c.args.copies.now in
+    let n = c.loop-f.f-iterator.count in
+    let v = judged m F cs c.args.b c.args.a in
+    let s = c.in-Some.ensures.steps in
+    let k = c.loop-f.invariant in
+    let go = c.in-Some.ensures.goes.on k.1 in
+    let lt : n < F = omega (arith, s.0.0.1.0, k.2, k.3) in
+    let la = place_within c.args.sizes.berths F c.args.a n (omega arith) lt in
+    let lb = place_within c.args.sizes.berths F c.args.b n (omega arith) lt in
+    let i = s.0.0.1.1 ∙ k.2 in
+    let j = s.0.1.1.1 ∙ k.4 in
+    let ev = taking_verdict m F c.args.a c.args.b cs c.requires.ready.0.some_files n c.in-Some.i c.in-Some.j c.loop-f.copies c.take_newer.result c.requires.ready.1.0 lt (omega arith) (omega arith) k.7 i j c.take_newer.ensures.verdict in (
+      go.0,
+      go.1,
+      omega (arith, s.2, s.0.0.1.2, k.2),
+      omega (arith, s.0.0.0, k.3),
+      omega (arith, s.2, s.0.1.1.2, k.4),
+      omega (arith, s.0.1.0, k.5),
+      omega (arith, s.2, lt),
+      taking_more m F c.args.a c.args.b cs c.requires.ready.0.some_files n c.in-Some.i c.in-Some.j c.loop-f.copies c.take_newer.new.copies c.requires.ready.1.0 lt (omega arith) (omega arith) k.7 i j c.take_newer.ensures.copies ∙ ap (λ x. taking m F c.args.a c.args.b cs x) (sym s.2),
+      subst (λ (l : List (Record g.row.C.Denot g.row.P.Denot)). Clocks m l) (sym c.take_newer.ensures.copies) (took_clocks m c.loop-f.copies c.in-Some.i c.in-Some.j k.8),
+      omega arith,
+      told_more n _ c.in-Some.f v c.args.bytes.now c.loop-f.bytes c.into.result c.take_newer.result s.1 s.2 (omega arith) k.10 c.into.ensures ev,
+      length-set c.loop-f.bytes c.in-Some.f c.into.result ∙ k.11,
+    )
+
+pub returns : goal.returns
+returns g c =
+    let F = c.args.sizes.files in
+    let m = g.C.Clock.meaning in
+    let cs = c.args.copies.now in
+    let n = c.loop-f.f-iterator.count in
+    let v = judged m F cs c.args.b c.args.a in
+    let k = c.loop-f.invariant in
+    let over : F ≤ n = ⊎_elim (λ z. omega (arith, z.1.0, k.2, k.3)) (λ z. omega (arith, z.1.0, k.4, k.5)) c.in-None.ensures.steps.0 in
+    let e : n ≡ F = omega (arith, over, k.6) in
+    let told = k.10 ∙ ap (λ j. reported j v c.args.bytes.now) e in
+    record {
+      copies = k.7 ∙ taking_all m F c.args.a c.args.b cs c.requires.ready.0.some_files n e;
+      bytes = told;
+      taken = counts_told F v c.args.bytes.now c.requires.ready.1.1 Stale is_stale told_stale _ c.count_verdict-taken.result told c.count_verdict-taken.ensures;
+      conflicts = counts_told F v c.args.bytes.now c.requires.ready.1.1 Conflict is_conflict told_conflict _ c.count_verdict-conflicts.result told c.count_verdict-conflicts.ensures;
+    }

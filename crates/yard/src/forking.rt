@@ -1,0 +1,82 @@
+ghost use Rattle.std.specs.Prelude.{◌≡◌, [], length, ◌≢◌};
+ghost use Rattle.history.specs.Tables.{Made, row, copy_from};
+ghost use Rattle.history.specs.Checks.{left};
+ghost use Rattle.history.specs.Fork.{fork_plain, fork_result};
+ghost use Rattle.history.specs.Fork.{fork_call};
+ghost use Rattle.history.specs.Law.{LawfulAt};
+ghost use Rattle.yard.specs.Passing.{all_pass};
+ghost use Rattle.yard.specs.Ready.{Ready};
+
+use crate::cards::Card;
+use crate::checks::{check_berth, check_empty, check_sizes, check_two, check_working, row};
+use crate::open_card::OpenCard;
+use crate::places::Place;
+use clock::{Clock, Fault};
+use history::{Berth, Record, Sizes};
+
+// The pens and clocks of the tables are plain data with no invariant in their types, a rule of the project: so `made`,
+// and what it says of one table, stands on each contract. Two berths, or a berth and a file, are no one thing.
+// `Ready` ties two berths, the sizes and a lent table: no one value holds them, and a struct of them would have a
+// maker for each call, with the proof that the call's own checks give it.
+
+fn check_fork<Q, C, P>(
+    sizes: Sizes,
+    berths: &[Berth<Q>],
+    copies: &[Record<C, P>],
+    a: usize,
+    b: usize,
+) -> Result<(), Fault>
+    ensures { result ≡ all_pass (fork_plain sizes berths.now copies.now a b) }
+{
+    check_sizes(sizes, berths, copies)?;
+    check_berth(sizes, a)?;
+    check_berth(sizes, b)?;
+    check_two(a, b)?;
+    check_working(berths, a)?;
+    check_empty(berths, b)
+}
+
+// Berth b gets a's copies.
+fn copy_files<C: Copy, P: Copy>(sizes: Sizes, copies: &mut [Record<C, P>], a: usize, b: usize)
+    requires { (Ready sizes sizes.berths (length copies.old) a b) × ((a ≢ b)) }
+    ensures { copies.new ≡ row sizes.files copies.old b (copy_from sizes.files copies.old a) }
+{
+    copies.copy_within(row(sizes, a), row(sizes, b).start);
+}
+
+// The fork, under a card of these sizes.
+fn fork_berth<C: Clock, P: Copy>(
+    sizes: Sizes,
+    berths: &mut [Berth<C::Pen>],
+    copies: &mut [Record<C, P>],
+    a: usize,
+    b: usize,
+) -> Result<(), Fault>
+    requires made { Made C.Clock.meaning berths.old copies.old }
+    ensures { left result berths.new copies.new [] ≡ fork_result C.Clock.meaning sizes berths.old copies.old a b }
+{
+    check_fork(sizes, berths, copies, a, b)?;
+    let halves = C::fork(&berths[a].pen).at_berth(a)?;
+    berths[a] = Berth::working(halves.0);
+    berths[b] = Berth::working(halves.1);
+    copy_files(sizes, copies, a, b);
+    Ok(())
+}
+
+/// A new replica of working berth `a` in empty berth `b`: `a` keeps the first
+/// half of its pen, `b` works with the second and gets a's copies. Refused with
+/// 1, 2, 4, 5, and the kind's 11.
+pub fn fork<C: Clock, P: Copy>(
+    card: &OpenCard,
+    berths: &mut [Berth<C::Pen>],
+    copies: &mut [Record<C, P>],
+    a: usize,
+    b: usize,
+) -> Result<(), Fault>
+    requires made { Made C.Clock.meaning berths.old copies.old }
+    ensures result { left result berths.new copies.new [] ≡ fork_result C.Clock.meaning card.now berths.old copies.old a b }
+    ensures made { Made C.Clock.meaning berths.new copies.new }
+    ensures history { LawfulAt C.Clock.meaning (fork_call card.now a b) berths.old copies.old (left result berths.new copies.new []) }
+{
+    fork_berth(card.sizes(), berths, copies, a, b)
+}

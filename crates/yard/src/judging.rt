@@ -1,0 +1,68 @@
+ghost use Rattle.std.specs.Prelude.{◌≡◌, []};
+ghost use Rattle.history.specs.Tables.{Made};
+ghost use Rattle.history.specs.Checks.{left};
+ghost use Rattle.history.specs.Judge.{judge_checks, judge_result};
+ghost use Rattle.history.specs.Judge.{judge_call};
+ghost use Rattle.history.specs.Law.{LawfulAt};
+ghost use Rattle.yard.specs.Passing.{all_pass};
+
+use crate::cards::Card;
+use crate::checks::{check_berth, check_file, check_sizes, check_working, place};
+use clock::{Clock, Fault, Verdict};
+use history::{Berth, Record, Sizes};
+
+// The pens and clocks of the tables are plain data with no invariant in their types, a rule of the project: so `made`,
+// and what it says of one table, stands on each contract. Two berths, or a berth and a file, are no one thing.
+
+fn check_judge<Q, C, P>(
+    sizes: Sizes,
+    berths: &[Berth<Q>],
+    copies: &[Record<C, P>],
+    a: usize,
+    b: usize,
+    f: usize,
+) -> Result<(), Fault>
+    ensures { result ≡ all_pass (judge_checks sizes berths.now copies.now a b f) }
+{
+    check_sizes(sizes, berths, copies)?;
+    check_berth(sizes, a)?;
+    check_berth(sizes, b)?;
+    check_file(sizes, f)?;
+    check_working(berths, a)?;
+    check_working(berths, b)
+}
+
+fn judge_copies<C: Clock, P: Copy>(
+    sizes: Sizes,
+    berths: &[Berth<C::Pen>],
+    copies: &[Record<C, P>],
+    a: usize,
+    b: usize,
+    f: usize,
+) -> Result<Verdict, Fault>
+    requires { Made C.Clock.meaning berths.now copies.now }
+    ensures { left result berths.now copies.now [] ≡ judge_result C.Clock.meaning sizes berths.now copies.now a b f }
+{
+    check_judge(sizes, berths, copies, a, b, f)?;
+    let i = place(sizes, a, f);
+    let j = place(sizes, b, f);
+    let verdict = copies[i].clock.compare(&copies[j].clock);
+    Ok(verdict)
+}
+
+/// The verdict on berth `a`'s copy of file `f` against `b`'s. Both berths are
+/// in use, and `a` may be `b`. Refused with 1, 2, 3, 5.
+pub fn judge<K: Card, C: Clock, P: Copy>(
+    card: &K,
+    berths: &[Berth<C::Pen>],
+    copies: &[Record<C, P>],
+    a: usize,
+    b: usize,
+    f: usize,
+) -> Result<Verdict, Fault>
+    requires made { Made C.Clock.meaning berths.now copies.now }
+    ensures result { left result berths.now copies.now [] ≡ judge_result C.Clock.meaning (K.Card.sizes card.now) berths.now copies.now a b f }
+    ensures history { LawfulAt C.Clock.meaning (judge_call (K.Card.sizes card.now) a b f) berths.now copies.now (left result berths.now copies.now []) }
+{
+    judge_copies(card.sizes(), berths, copies, a, b, f)
+}

@@ -1,0 +1,67 @@
+ghost use Rattle.std.specs.Prelude.{◌≡◌, ◌<◌, [], length, if◌then◌else◌, nat_eq, OnOk};
+ghost use Rattle.history.specs.Tables.{Made, working_berth, empty_berth};
+ghost use Rattle.history.specs.Checks.{left};
+ghost use Rattle.history.specs.Open.{opened_berths, opened_copies, open_result};
+ghost use Rattle.history.specs.Law.{LawfulOpen};
+
+use crate::blanks::blank_berth;
+use crate::checks::check_sizes;
+use crate::open_card::OpenCard;
+use clock::{Clock, Fault};
+use history::{Berth, Record, Sizes};
+
+// Berth 0 works with the seed pen, the others are empty.
+fn opening_berth<C: Clock>(b: usize) -> Berth<C::Pen>
+    ensures { result ≡ (if nat_eq b 0 then working_berth C.Clock.meaning.seed else empty_berth C.Clock.meaning) }
+{
+    if b == 0 {
+        Berth::working(C::seed())
+    } else {
+        blank_berth::<C>()
+    }
+}
+
+fn open_berths<C: Clock>(berths: &mut [Berth<C::Pen>])
+    ensures { berths.new ≡ opened_berths C.Clock.meaning berths.old }
+{
+    for (b, berth) in berths.iter_mut().enumerate() {
+        *berth = opening_berth::<C>(b);
+    }
+}
+
+// Each record of file f gets the empty clock and payload f.
+fn open_copies<C: Clock, P: Copy>(copies: &mut [Record<C, P>], payloads: &[P])
+    requires { 0 < length payloads.now }
+    ensures { copies.new ≡ opened_copies C.Clock.meaning payloads.now copies.old }
+{
+    for (i, copy) in copies.iter_mut().enumerate() {
+        let f = i % payloads.len();
+        *copy = Record {
+            clock: C::blank(),
+            payload: payloads[f],
+        };
+    }
+}
+
+/// Opens a yard: one berth for each entry of `berths`, one file for each of
+/// `payloads`, its opening payload. Every copy gets the empty clock; berth 0
+/// works with the seed pen and the others are empty. Answers the card. Refused
+/// with 1; then nothing is changed.
+pub fn open<C: Clock, P: Copy>(
+    berths: &mut [Berth<C::Pen>],
+    copies: &mut [Record<C, P>],
+    payloads: &[P],
+) -> Result<OpenCard, Fault>
+    ensures result { left result berths.new copies.new [] ≡ open_result C.Clock.meaning berths.old copies.old payloads.now }
+    ensures made { OnOk result (Made C.Clock.meaning berths.new copies.new) }
+    ensures history { LawfulOpen C.Clock.meaning payloads.now (left result berths.new copies.new []) }
+{
+    let sizes = Sizes {
+        berths: berths.len(),
+        files: payloads.len(),
+    };
+    check_sizes(sizes, berths, copies)?;
+    open_berths::<C>(berths);
+    open_copies(copies, payloads);
+    Ok(OpenCard { sizes })
+}

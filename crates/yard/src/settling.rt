@@ -1,0 +1,78 @@
+ghost use Rattle.std.specs.Prelude.{◌≡◌, not, [], Some, None};
+ghost use Rattle.clock.specs.Answers.{due};
+ghost use Rattle.clock.specs.declared.causes.Cause.TheVariants.{NoConflict};
+ghost use Rattle.history.specs.Tables.{is_conflict, Made};
+ghost use Rattle.history.specs.Checks.{fault, left};
+ghost use Rattle.history.specs.Settle.{settle_plain, settle_result};
+ghost use Rattle.history.specs.Settle.{settle_call};
+ghost use Rattle.history.specs.Law.{LawfulAt};
+ghost use Rattle.yard.specs.Passing.{passing, all_pass};
+
+use crate::cards::Card;
+use crate::checks::{
+    check_berth, check_file, check_sizes, check_two, check_working, place, refuse_if,
+};
+use crate::open_card::OpenCard;
+use crate::places::Place;
+use clock::{Cause, Clock, Fault, Verdict};
+use history::{Berth, Record, Sizes};
+
+// The pens and clocks of the tables are plain data with no invariant in their types, a rule of the project: so `made`,
+// and what it says of one table, stands on each contract. Two berths, or a berth and a file, are no one thing.
+
+fn check_settle<Q, C, P>(
+    sizes: Sizes,
+    berths: &[Berth<Q>],
+    copies: &[Record<C, P>],
+    a: usize,
+    b: usize,
+    f: usize,
+) -> Result<(), Fault>
+    ensures { result ≡ all_pass (settle_plain sizes berths.now copies.now a b f) }
+{
+    check_sizes(sizes, berths, copies)?;
+    check_berth(sizes, a)?;
+    check_berth(sizes, b)?;
+    check_file(sizes, f)?;
+    check_two(a, b)?;
+    check_working(berths, a)?;
+    check_working(berths, b)
+}
+
+// 7: the copies are in conflict.
+fn check_conflict(verdict: Verdict, b: usize, f: usize) -> Result<(), Fault>
+    ensures { result ≡ passing (due (not (is_conflict verdict)) (fault NoConflict (Some b) (Some f))) }
+{
+    let fault = Fault::from(Cause::NoConflict).at_berth(b).at_file(f);
+    refuse_if(verdict != Verdict::Conflict, fault)
+}
+
+/// Working berth `b` ends the conflict of its copy of file `f` with `a`'s: its
+/// clock becomes the join of the two and an event on it, its payload the one
+/// given. Refused with 1 to 5, 7, join's 15, then event's 14 to 16.
+pub fn settle<C: Clock, P: Copy>(
+    card: &OpenCard,
+    berths: &[Berth<C::Pen>],
+    copies: &mut [Record<C, P>],
+    a: usize,
+    b: usize,
+    f: usize,
+    payload: P,
+) -> Result<(), Fault>
+    requires made { Made C.Clock.meaning berths.now copies.old }
+    ensures result { left result berths.now copies.new [] ≡ settle_result C.Clock.meaning card.now berths.now copies.old a b f payload }
+    ensures made { Made C.Clock.meaning berths.now copies.new }
+    ensures history { LawfulAt C.Clock.meaning (settle_call card.now a b f payload) berths.now copies.old (left result berths.now copies.new []) }
+{
+    let sizes = card.sizes();
+    check_settle(sizes, berths, copies, a, b, f)?;
+    let i = place(sizes, b, f);
+    let j = place(sizes, a, f);
+    let theirs = copies[j].clock;
+    let ours = copies[i].clock;
+    check_conflict(ours.compare(&theirs), b, f)?;
+    let joined = ours.join(&theirs).at(b, f)?;
+    let clock = joined.event(&berths[b].pen).at(b, f)?;
+    copies[i] = Record { clock, payload };
+    Ok(())
+}

@@ -1,2 +1,0 @@
-mod Taken
-mod Retired
