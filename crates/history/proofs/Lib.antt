@@ -23,3 +23,4 @@ pub mod Pull
 pub mod Retire
 pub mod EachCall
 pub mod Law
+pub mod OldWords
