@@ -23,4 +23,3 @@ pub mod Pull
 pub mod Retire
 pub mod EachCall
 pub mod Law
-pub mod OldWords
