@@ -29,14 +29,29 @@ pub fn row<'a, K: Kind + 'a>(
     if sum != proved.rounds(before, call, &work, 3) {
         return Err(format!("{name}: the sums differ"));
     }
-    let (before, again) = (before.to_vec(), work.clone());
-    Ok(Row {
+    let again = work.clone();
+    Ok(beside(proved, name, before, again, goal, move |times| {
+        timed(|| rounds(&mut tables, call, &work, times))
+    }))
+}
+
+/// A row of steps by the library, beside what a peer does.
+pub fn beside<'a>(
+    proved: Proved,
+    name: String,
+    before: &[Step],
+    work: Vec<Step>,
+    goal: Option<f64>,
+    peer: impl FnMut(u32) -> Duration + 'a,
+) -> Row<'a> {
+    let (before, call) = (before.to_vec(), work[0].call);
+    Row {
         name,
         operations: WORK,
         goal,
-        ours: Box::new(move |times| timed(|| proved.rounds(&before, call, &again, times))),
-        peer: Box::new(move |times| timed(|| rounds(&mut tables, call, &work, times))),
-    })
+        ours: Box::new(move |times| timed(|| proved.rounds(&before, call, &work, times))),
+        peer: Box::new(peer),
+    }
 }
 
 /// The rows of one size of tree.

@@ -3,30 +3,33 @@
 use crate::seasons::Call;
 use crate::steps::Step;
 
+// The functions of each kind, by their names.
+macro_rules! kinds {
+    ($($steps:ident, $rounds:ident, $season:ident, $seasons:ident;)*) => {
+        extern "C" {
+            $(
+                fn $steps(steps: *const Step, count: usize, text: *mut u8, room: usize) -> usize;
+                fn $rounds(
+                    before: *const Step,
+                    m: usize,
+                    call: u32,
+                    work: *const Step,
+                    n: usize,
+                    times: u32,
+                ) -> u64;
+                fn $season(calls: *const Call, count: usize, text: *mut u8, room: usize) -> usize;
+                fn $seasons(calls: *const Call, count: usize, times: u32) -> u64;
+            )*
+        }
+    };
+}
+
+kinds! {
+    govdrez_tree_steps, govdrez_tree_rounds, govdrez_tree_season, govdrez_tree_seasons;
+    govdrez_vector_steps, govdrez_vector_rounds, govdrez_vector_season, govdrez_vector_seasons;
+}
+
 extern "C" {
-    fn govdrez_tree_steps(steps: *const Step, count: usize, text: *mut u8, room: usize) -> usize;
-    fn govdrez_vector_steps(steps: *const Step, count: usize, text: *mut u8, room: usize) -> usize;
-    fn govdrez_tree_rounds(
-        before: *const Step,
-        m: usize,
-        call: u32,
-        work: *const Step,
-        n: usize,
-        times: u32,
-    ) -> u64;
-    fn govdrez_vector_rounds(
-        before: *const Step,
-        m: usize,
-        call: u32,
-        work: *const Step,
-        n: usize,
-        times: u32,
-    ) -> u64;
-    fn govdrez_tree_season(calls: *const Call, count: usize, text: *mut u8, room: usize) -> usize;
-    fn govdrez_vector_season(calls: *const Call, count: usize, text: *mut u8, room: usize)
-        -> usize;
-    fn govdrez_tree_seasons(calls: *const Call, count: usize, times: u32) -> u64;
-    fn govdrez_vector_seasons(calls: *const Call, count: usize, times: u32) -> u64;
     fn govdrez_record_copies(steps: *const Step, count: usize, times: u32) -> u64;
 }
 

@@ -2,7 +2,7 @@
 
 use crate::inputs::{self, WORK};
 use crate::kinds::{Crdts, Verdict};
-use crate::measure::row;
+use crate::measure::{beside, row};
 use crate::ours::Proved;
 use crate::scripts::Random;
 use crate::steps::{prepared, Step, COMPARE};
@@ -57,28 +57,22 @@ fn merges<'a>(before: &[Step], work: &[Step], name: String) -> Row<'a> {
         .iter()
         .map(|step| (clock(step.a), clock(step.b)))
         .collect();
-    let (before, again, call) = (before.to_vec(), work.to_vec(), work[0].call);
-    Row {
-        name,
-        operations: WORK,
-        goal: None,
-        ours: Box::new(move |times| timed(|| Proved::Vectors.rounds(&before, call, &again, times))),
-        peer: Box::new(move |times| {
-            let mut spent = Duration::ZERO;
-            let mut merged = Vec::with_capacity(WORK);
-            for _ in 0..times {
-                merged.clear();
-                let batch = pairs.clone();
-                spent += timed(|| {
-                    for (mut a, b) in batch {
-                        a.merge(b);
-                        merged.push(a);
-                    }
-                });
-            }
-            spent
-        }),
-    }
+    let vectors = Proved::Vectors;
+    beside(vectors, name, before, work.to_vec(), None, move |times| {
+        let mut spent = Duration::ZERO;
+        let mut merged = Vec::with_capacity(WORK);
+        for _ in 0..times {
+            merged.clear();
+            let batch = pairs.clone();
+            spent += timed(|| {
+                for (mut a, b) in batch {
+                    a.merge(b);
+                    merged.push(a);
+                }
+            });
+        }
+        spent
+    })
 }
 
 /// The increments alone, of one clock again and again.
@@ -93,21 +87,15 @@ fn increments<'a>(before: &[Step], work: &[Step], name: String) -> Row<'a> {
             )
         })
         .collect();
-    let (before, again, call) = (before.to_vec(), work.to_vec(), work[0].call);
-    Row {
-        name,
-        operations: WORK,
-        goal: None,
-        ours: Box::new(move |times| timed(|| Proved::Vectors.rounds(&before, call, &again, times))),
-        peer: Box::new(move |times| {
-            timed(|| {
-                for _ in 0..times {
-                    for (clock, name) in &mut clocks {
-                        let dot = clock.inc(*name);
-                        clock.apply(dot);
-                    }
+    let vectors = Proved::Vectors;
+    beside(vectors, name, before, work.to_vec(), None, move |times| {
+        timed(|| {
+            for _ in 0..times {
+                for (clock, name) in &mut clocks {
+                    let dot = clock.inc(*name);
+                    clock.apply(dot);
                 }
-            })
-        }),
-    }
+            }
+        })
+    })
 }

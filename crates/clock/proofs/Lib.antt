@@ -1,2 +1,5 @@
+pub mod Tests
+pub mod Deciding
+pub mod Dues
 pub mod Answering
 pub mod Comparing

@@ -21,7 +21,7 @@ mod trees;
 
 pub use calls::{Answer, Call, Needs, Refusal};
 pub use edit_sets::EditSet;
-pub use kinds::Kind;
+pub use kinds::{Kind, Made};
 pub use model::{Kept, Model, Row};
 pub use names::Names;
 pub use trees::Trees;

@@ -1,4 +1,4 @@
-use crate::kinds::Kind;
+use crate::kinds::{Kind, Made};
 use std::alloc::{AllocError, Global};
 
 /// Vectors: a pen is a set of 16 names, a clock a count for each.
@@ -28,10 +28,7 @@ impl Kind for Names {
         Ok([0; 16])
     }
 
-    fn fork(
-        _heap: Global,
-        pen: &[bool; 16],
-    ) -> Result<Result<([bool; 16], [bool; 16]), u8>, AllocError> {
+    fn fork(_heap: Global, pen: &[bool; 16]) -> Made<([bool; 16], [bool; 16])> {
         let size = count(pen);
         if size < 2 {
             return Ok(Err(11));
@@ -46,11 +43,7 @@ impl Kind for Names {
         Ok(Ok((first, second)))
     }
 
-    fn unite(
-        _heap: Global,
-        pen: &[bool; 16],
-        other: &[bool; 16],
-    ) -> Result<Result<[bool; 16], u8>, AllocError> {
+    fn unite(_heap: Global, pen: &[bool; 16], other: &[bool; 16]) -> Made<[bool; 16]> {
         let mut both = [false; 16];
         for (name, (mine, theirs)) in pen.iter().zip(other).enumerate() {
             if *mine && *theirs {
@@ -61,11 +54,7 @@ impl Kind for Names {
         Ok(Ok(both))
     }
 
-    fn event(
-        _heap: Global,
-        pen: &[bool; 16],
-        clock: &[u32; 16],
-    ) -> Result<Result<[u32; 16], u8>, AllocError> {
+    fn event(_heap: Global, pen: &[bool; 16], clock: &[u32; 16]) -> Made<[u32; 16]> {
         if count(pen) == 0 {
             return Ok(Err(14));
         }
@@ -79,11 +68,7 @@ impl Kind for Names {
         Ok(Err(16))
     }
 
-    fn join(
-        _heap: Global,
-        clock: &[u32; 16],
-        other: &[u32; 16],
-    ) -> Result<Result<[u32; 16], u8>, AllocError> {
+    fn join(_heap: Global, clock: &[u32; 16], other: &[u32; 16]) -> Made<[u32; 16]> {
         let mut larger = [0; 16];
         for name in 0..16 {
             larger[name] = clock[name].max(other[name]);

@@ -1,5 +1,5 @@
 use crate::heights::{fill, grow, largest, write_tree};
-use crate::kinds::Kind;
+use crate::kinds::{Kind, Made};
 use crate::places::{MOST_NODES, PLACES, any, cut, nodes, write_id};
 use std::alloc::{AllocError, Global};
 
@@ -31,10 +31,7 @@ impl Kind for Trees {
         vec![in heap; 0; PLACES]
     }
 
-    fn fork(
-        heap: Global,
-        pen: &Vec<bool>,
-    ) -> Result<Result<(Vec<bool>, Vec<bool>), u8>, AllocError> {
+    fn fork(heap: Global, pen: &Vec<bool>) -> Made<(Vec<bool>, Vec<bool>)> {
         let Some(middle) = cut(pen, 0) else {
             return Ok(Err(11));
         };
@@ -47,11 +44,7 @@ impl Kind for Trees {
         Ok(Ok((first, second)))
     }
 
-    fn unite(
-        heap: Global,
-        pen: &Vec<bool>,
-        other: &Vec<bool>,
-    ) -> Result<Result<Vec<bool>, u8>, AllocError> {
+    fn unite(heap: Global, pen: &Vec<bool>, other: &Vec<bool>) -> Made<Vec<bool>> {
         let mut both = Vec::new(heap);
         for (mine, theirs) in pen.iter().zip(other) {
             if *mine && *theirs {
@@ -65,11 +58,7 @@ impl Kind for Trees {
         Ok(Ok(both))
     }
 
-    fn event(
-        _heap: Global,
-        pen: &Vec<bool>,
-        clock: &Vec<u32>,
-    ) -> Result<Result<Vec<u32>, u8>, AllocError> {
+    fn event(_heap: Global, pen: &Vec<bool>, clock: &Vec<u32>) -> Made<Vec<u32>> {
         if !any(pen) {
             return Ok(Err(14));
         }
@@ -87,11 +76,7 @@ impl Kind for Trees {
         Ok(Ok(values))
     }
 
-    fn join(
-        heap: Global,
-        clock: &Vec<u32>,
-        other: &Vec<u32>,
-    ) -> Result<Result<Vec<u32>, u8>, AllocError> {
+    fn join(heap: Global, clock: &Vec<u32>, other: &Vec<u32>) -> Made<Vec<u32>> {
         let mut larger = Vec::new(heap);
         for (mine, theirs) in clock.iter().zip(other) {
             larger.push((*mine).max(*theirs))?;

@@ -40,7 +40,7 @@ where
     )?;
     let mut tally = Tally::none();
     for round in 0..rounds {
-        run::<C, M, P>(rt.alloc(), plan, round, &mut tally).context(format_args!(
+        tally = Round::<C, M, P>::run(rt.alloc(), plan, round, tally).context(format_args!(
             "{}, {}: {name}, round {round}",
             M::NAME,
             P::NAME
@@ -51,31 +51,14 @@ where
     Ok(())
 }
 
-// One yard from its opening to the sealed card.
-fn run<C, M, P>(heap: Global, plan: &Plan, round: u64, tally: &mut Tally) -> Result<()>
-where
-    C: Clock + Display,
-    C::Pen: Display,
-    M: Kind,
-    P: Sample,
-{
-    let Plan { berths, files, .. } = *plan;
-    let copies = berths.saturating_mul(files);
-    let (own, tables) = Tables::<C, P>::open(heap, berths, files, copies)??;
-    let cards = Cards::beside::<C, P>(heap, own, berths, files)?;
-    let edits = plan.scripted.saturating_add(plan.calls);
-    let model = Model::<M>::open(heap, berths, files, edits / 64 + 1)?;
-    let mut pair = Pair {
-        heap,
-        tables,
-        model,
-    };
-    let mut from = Generator::new(seed::<M, P>(plan.seed, round));
-    run_script(&mut pair, &cards, plan, tally)?;
-    run_drawn(&mut pair, &cards, plan, &mut from, tally)?;
-    run_rough(&mut pair, &cards, plan, &mut from, tally)?;
-    pair.compare_all(&cards.own, tally)?;
-    run_sealed(&mut pair, cards, plan, &mut from, tally)
+// One yard beside its model, from its opening to the sealed card.
+#[derive(Drop)]
+struct Round<C: Clock, M: Kind, P: Sample> {
+    plan: Plan,
+    pair: Pair<C, M, P>,
+    cards: Cards<OpenCard>,
+    from: Generator,
+    tally: Tally,
 }
 
 // A seed for each plan, round, kind and payload.
@@ -86,128 +69,117 @@ fn seed<M: Kind, P: Sample>(plan: u64, round: u64) -> u64 {
         .wrapping_add(P::START)
 }
 
-// The calls of the plan's script.
-fn run_script<C, M, P>(
-    pair: &mut Pair<C, M, P>,
-    cards: &Cards<OpenCard>,
-    plan: &Plan,
-    tally: &mut Tally,
-) -> Result<()>
+impl<C, M, P> Round<C, M, P>
 where
     C: Clock + Display,
     C::Pen: Display,
     M: Kind,
     P: Sample,
 {
-    for number in 0..plan.scripted {
-        let order = Order::plain(plan.script.call(number), plan.files);
-        step(pair, cards, plan, &order, tally).context(format_args!(
-            "scripted call {number}: {:?}",
-            order.call
-        ))?;
+    // Counts on from a tally.
+    fn run(heap: Global, plan: &Plan, round: u64, tally: Tally) -> Result<Tally> {
+        let mut run = Round::<C, M, P>::open(heap, plan, round, tally)?;
+        run.script()?;
+        run.drawn()?;
+        run.rough()?;
+        run.compare_all()?;
+        run.sealed()
     }
-    Ok(())
-}
 
-// The calls that are drawn.
-fn run_drawn<C, M, P>(
-    pair: &mut Pair<C, M, P>,
-    cards: &Cards<OpenCard>,
-    plan: &Plan,
-    from: &mut Generator,
-    tally: &mut Tally,
-) -> Result<()>
-where
-    C: Clock + Display,
-    C::Pen: Display,
-    M: Kind,
-    P: Sample,
-{
-    for number in 0..plan.calls {
-        let order = draw_order(from, plan, &pair.model);
-        step(pair, cards, plan, &order, tally).context(format_args!(
-            "drawn call {number}: {:?}",
-            order.call
-        ))?;
+    fn open(heap: Global, plan: &Plan, round: u64, tally: Tally) -> Result<Round<C, M, P>> {
+        let Plan { berths, files, .. } = *plan;
+        let copies = berths.saturating_mul(files);
+        let (own, tables) = Tables::<C, P>::open(heap, berths, files, copies)??;
+        let cards = Cards::beside::<C, P>(heap, own, berths, files)?;
+        let edits = plan.scripted.saturating_add(plan.calls);
+        let model = Model::<M>::open(heap, berths, files, edits / 64 + 1)?;
+        Ok(Round {
+            plan: *plan,
+            pair: Pair {
+                heap,
+                tables,
+                model,
+            },
+            cards,
+            from: Generator::new(seed::<M, P>(plan.seed, round)),
+            tally,
+        })
     }
-    Ok(())
-}
 
-// Of calls with any arguments those that are to be refused with 1 to 6.
-fn run_rough<C, M, P>(
-    pair: &mut Pair<C, M, P>,
-    cards: &Cards<OpenCard>,
-    plan: &Plan,
-    from: &mut Generator,
-    tally: &mut Tally,
-) -> Result<()>
-where
-    C: Clock + Display,
-    C::Pen: Display,
-    M: Kind,
-    P: Sample,
-{
-    for number in 0..plan.rough {
-        let order = draw_rough(from, plan);
-        let due = pair.model.refusal(order.call, order.is_other(), order.room);
-        if due.is_some() {
-            step(pair, cards, plan, &order, tally).context(format_args!(
-                "rough call {number}: {:?}",
-                order.call
-            ))?;
+    // The calls of the plan's script.
+    fn script(&mut self) -> Result<()> {
+        for number in 0..self.plan.scripted {
+            let order = Order::plain(self.plan.script.call(number), self.plan.files);
+            self.step(&order)
+                .context(format_args!("scripted call {number}: {:?}", order.call))?;
         }
+        Ok(())
     }
-    Ok(())
-}
 
-// One call, and what is compared after it.
-fn step<C, M, P>(
-    pair: &mut Pair<C, M, P>,
-    cards: &Cards<OpenCard>,
-    plan: &Plan,
-    order: &Order,
-    tally: &mut Tally,
-) -> Result<()>
-where
-    C: Clock + Display,
-    C::Pen: Display,
-    M: Kind,
-    P: Sample,
-{
-    let answer = pair.call(cards.of(order.given), order)?;
-    tally.count(&answer);
-    if plan.every != 0 && tally.calls % plan.every == 0 {
-        return pair.compare_all(&cards.own, tally);
+    // The calls that are drawn.
+    fn drawn(&mut self) -> Result<()> {
+        for number in 0..self.plan.calls {
+            let order = draw_order(&mut self.from, &self.plan, &self.pair.model);
+            self.step(&order)
+                .context(format_args!("drawn call {number}: {:?}", order.call))?;
+        }
+        Ok(())
     }
-    pair.compare_tables()?;
-    // the words of a long count are compared at times only
-    if let Script::Edits { .. } = plan.script {
-        return Ok(());
-    }
-    pair.compare_named(order.call, tally)
-}
 
-// Judge and report under the sealed cards, which leave everything as it was.
-fn run_sealed<C, M, P>(
-    pair: &mut Pair<C, M, P>,
-    cards: Cards<OpenCard>,
-    plan: &Plan,
-    from: &mut Generator,
-    tally: &mut Tally,
-) -> Result<()>
-where
-    C: Clock + Display,
-    C::Pen: Display,
-    M: Kind,
-    P: Sample,
-{
-    let cards = cards.seal();
-    for number in 0..plan.sealed {
-        let order = draw_reading(from, plan, &pair.model);
-        let answer = pair
-            .read(cards.of(order.given), &order)
-            .context(format_args!("sealed call {number}: {:?}", order.call))?;
-        tally.count(&answer);
+    // Of calls with any arguments those that are to be refused with 1 to 6.
+    fn rough(&mut self) -> Result<()> {
+        for number in 0..self.plan.rough {
+            let order = draw_rough(&mut self.from, &self.plan);
+            let due = self
+                .pair
+                .model
+                .refusal(order.call, order.is_other(), order.room);
+            if due.is_some() {
+                self.step(&order)
+                    .context(format_args!("rough call {number}: {:?}", order.call))?;
+            }
+        }
+        Ok(())
     }
-    pair.compare_all(&cards.own, tally)
+
+    // One call, and what is compared after it.
+    fn step(&mut self, order: &Order) -> Result<()> {
+        let answer = self.pair.call(self.cards.of(order.given), order)?;
+        self.tally.count(&answer);
+        let every = self.plan.every;
+        if every != 0 && self.tally.calls % every == 0 {
+            return self.compare_all();
+        }
+        self.pair.compare_tables()?;
+        // the words of a long count are compared at times only
+        if let Script::Edits { .. } = self.plan.script {
+            return Ok(());
+        }
+        self.pair.compare_named(order.call, &mut self.tally)
+    }
+
+    fn compare_all(&mut self) -> Result<()> {
+        self.pair.compare_all(&self.cards.own, &mut self.tally)
+    }
+
+    // Judge and report under the sealed cards, which leave everything as it was.
+    fn sealed(self) -> Result<Tally> {
+        let Round {
+            plan,
+            mut pair,
+            cards,
+            mut from,
+            mut tally,
+        } = self;
+        let cards = cards.seal();
+        for number in 0..plan.sealed {
+            let order = draw_reading(&mut from, &plan, &pair.model);
+            let answer = pair
+                .read(cards.of(order.given), &order)
+                .context(format_args!("sealed call {number}: {:?}", order.call))?;
+            tally.count(&answer);
+        }
+        pair.compare_all(&cards.own, &mut tally)?;
+        Ok(tally)
+    }
 }

@@ -1,11 +1,12 @@
 -- How `fill_into` lays out a filled tree.
 use Rattle.std.proofs.Common.{◌≡◌, ℕ, ◌+◌, ◌≤◌, max, Bool, true, false, List, ◌∷◌, get_or, set, refl, sym, ap, ◌∙◌, arith}
+use Rattle.std.proofs.lemmas.Bool.{true≢false, false≢true}
 use Rattle.std.proofs.lemmas.List.{set_at}
 use Rattle.tree_rules.specs.Ids.{Id, off, on, pair, is_on}
 use Rattle.tree_rules.specs.Events.{Event, leaf, node, size, base, top, lo, hi, norm, Normal}
 use Rattle.tree_rules.specs.Shape.{shape}
 use Rattle.tree_rules.specs.Fill.{filled, fill}
-use Rattle.tree_rules.proofs.Norms.{clash, clash', size_pos, base-top, top-lo, top-hi, normal-low, normal-lo, normal-hi}
+use Rattle.tree_rules.proofs.Norms.{size_pos, base-top, top-lo, top-hi, normal-low, normal-lo, normal-hi}
 use Rattle.tree_rules.proofs.Fills.{normal-fill, size-fill, top-fill}
 use Rattle.tree_clock.specs.declared.nodes.Node.{Node}
 use Rattle.tree_clock.specs.Flat.{flat, filler, Laid, Stands}
@@ -44,19 +45,19 @@ module _ (o : List Node) (mid end n : ℕ) where
   Raises s t o' = (l r : Event) → Sides o mid end s t l r → Raised s t l r o'
 
   pub raises_lower : (s t : Bool) (o' : List Node) → s ≡ true → ((end c : ℕ) (r : Event) → ◌≡◌ {A = ℕ} 1 1 → Laid o mid end (leaf c) r → Laid o' mid end (leaf (max c (base r))) r) → Raises s t o'
-  raises_lower false t o' h w l r z = absurd (clash h)
+  raises_lower false t o' h w l r z = absurd (false≢true h)
   raises_lower true t o' h w (leaf c) r z = record { lower = leaf (max c (base r)); upper = r; lies = w end c r refl z.0; normal_lower = tt; normal_upper = z.2; is = rw (normal-low r z.2); most = omega (arith, base-top r) }
   raises_lower true t o' h w (node c l l') r z = absurd (omega (arith, z.3 refl, size_pos l))
 
   pub raises_upper : (s t : Bool) (o' : List Node) → s ≡ false → t ≡ true → ((end c : ℕ) (l : Event) → ◌≡◌ {A = ℕ} 1 1 → Laid o mid end l (leaf c) → Laid o' mid end l (leaf (max c (base l)))) → Raises s t o'
-  raises_upper true t o' h h' w l r z = absurd (clash' h)
-  raises_upper false false o' h h' w l r z = absurd (clash h')
+  raises_upper true t o' h h' w l r z = absurd (true≢false h)
+  raises_upper false false o' h h' w l r z = absurd (false≢true h')
   raises_upper false true o' h h' w l (leaf c) z = record { lower = l; upper = leaf (max c (base l)); lies = w end c l refl z.0; normal_lower = z.1; normal_upper = tt; is = rw (normal-low l z.1); most = omega arith }
   raises_upper false true o' h h' w l (node c r r') z = absurd (omega (arith, z.4 refl, size_pos r))
 
   pub raises_none : (s t : Bool) (o' : List Node) → s ≡ false → t ≡ false → o' ≡ o → Raises s t o'
-  raises_none true t o' h h' q l r z = absurd (clash' h)
-  raises_none false true o' h h' q l r z = absurd (clash' h')
+  raises_none true t o' h h' q l r z = absurd (true≢false h)
+  raises_none false true o' h h' q l r z = absurd (true≢false h')
   raises_none false false o' h h' q l r z = record { lower = l; upper = r; lies = rw q z.0; normal_lower = z.1; normal_upper = z.2; is = refl; most = omega arith }
 
   module _ (s t : Bool) (o' : List Node) (w : Raises s t o') where
@@ -75,16 +76,16 @@ fill_leaf : (i : Id) (t : Event) → true ≡ is_leaf t → fill i t ≡ leaf (b
 fill_leaf off (leaf n) h = refl
 fill_leaf on (leaf n) h = refl
 fill_leaf (pair l r) (leaf n) h = refl
-fill_leaf i (node n a b) h = absurd (clash' h)
+fill_leaf i (node n a b) h = absurd (true≢false h)
 
 pub leaf_filled : (i : Id) (t : Event) (n : ℕ) → true ≡ is_leaf t → n ≡ base t → (s : List Node) (m : ℕ) → Stands s m (leaf n) → Stands s m (fill i t)
 leaf_filled i t n h k s m w = rw (fill_leaf i t h ∙ ap leaf (sym k)) w
 
 -- under 1 a filled tree is a leaf
 one_size : (i : Id) (e : Event) → is_on i ≡ true → size (fill i e) ≡ 1
-one_size off e h = absurd (clash h)
+one_size off e h = absurd (false≢true h)
 one_size on e h = refl
-one_size (pair l r) e h = absurd (clash h)
+one_size (pair l r) e h = absurd (false≢true h)
 
 same_tops : (s t : Bool) (n : ℕ) (a b a' b' : Event) → top a' ≡ top a → top b' ≡ top b → filled s t n a b a' b' ≡ filled s t n a' b' a' b'
 same_tops true t n a b a' b' p q = rw p
@@ -93,9 +94,9 @@ same_tops false false n a b a' b' p q = refl
 
 -- the step at a pair and a triple, its branches being filled
 fill_step : (i : Id) (t : Event) → false ≡ is_leaf (shape i) → false ≡ is_leaf t → Normal t → fill i t ≡ filled (is_on (id_lo i)) (is_on (id_hi i)) (base t) (fill (id_lo i) (lo t)) (fill (id_hi i) (hi t)) (fill (id_lo i) (lo t)) (fill (id_hi i) (hi t))
-fill_step off t p q m = absurd (clash p)
-fill_step on t p q m = absurd (clash p)
-fill_step (pair l r) (leaf n) p q m = absurd (clash q)
+fill_step off t p q m = absurd (false≢true p)
+fill_step on t p q m = absurd (false≢true p)
+fill_step (pair l r) (leaf n) p q m = absurd (false≢true q)
 fill_step (pair l r) (node n a b) p q m = same_tops (is_on l) (is_on r) n a b (fill l a) (fill r b) (top-fill l a m.2) (top-fill r b m.3)
 
 -- l and r are the sides, a and b the branches, and n the base

@@ -1,11 +1,11 @@
 -- What growing costs, as `growth_cost` finds it.
 use Rattle.std.proofs.Common.{◌≡◌, ℕ, ◌+◌, min, true, false, cond, ltb, refl, ap, arith, le-ltb, lt-ltb}
+use Rattle.std.proofs.lemmas.Bool.{true≢false, false≢true}
 use native.Mathlib.Decide.{dec_lt}
 use Rattle.tree_rules.specs.Ids.{Id, off, on, pair, is_off}
 use Rattle.tree_rules.specs.Events.{Event, lo, hi}
 use Rattle.tree_rules.specs.Shape.{shape}
 use Rattle.tree_rules.specs.Grow.{extra, lowers, cost}
-use Rattle.tree_rules.proofs.Norms.{clash, clash'}
 use Rattle.tree_rules.proofs.Grows.{cost_pair, cost_bound}
 use Rattle.tree_clock.specs.Trees.{is_leaf, id_lo, id_hi}
 
@@ -13,12 +13,12 @@ pub cost_leaf : (i : Id) (e : Event) → is_leaf (shape i) ≡ true → cost i e
 unfolding cost
 cost_leaf off e h = refl
 cost_leaf on e h = refl
-cost_leaf (pair l r) e h = absurd (clash h)
+cost_leaf (pair l r) e h = absurd (false≢true h)
 
 -- of the sides the one that is not 0, and else the cheaper
 cost_more : (i : Id) (e : Event) → is_leaf (shape i) ≡ false → cost i e ≡ cond (lowers (is_off (id_lo i)) (is_off (id_hi i)) (cost (id_lo i) (lo e)) (cost (id_hi i) (hi e))) (cost (id_lo i) (lo e)) (cost (id_hi i) (hi e)) + 1 + extra e
-cost_more off e h = absurd (clash' h)
-cost_more on e h = absurd (clash' h)
+cost_more off e h = absurd (true≢false h)
+cost_more on e h = absurd (true≢false h)
 cost_more (pair l r) e h = cost_pair l r e
 
 cheaper : (a b : ℕ) → cond (ltb a b) a b ≡ min a b

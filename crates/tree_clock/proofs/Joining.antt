@@ -1,8 +1,9 @@
 -- How `join_into` lays out a join.
 use Rattle.std.proofs.Common.{◌≡◌, ℕ, ◌+◌, ◌-◌, ◌<◌, ◌≤◌, min, List, ◌∙◌, arith}
+use Rattle.std.proofs.lemmas.Bool.{}
 use Rattle.tree_rules.specs.Events.{Event, leaf, node, size, base, top, lo, hi, norm, Normal}
 use Rattle.tree_rules.specs.Join.{join_up}
-use Rattle.tree_rules.proofs.Norms.{clash', size_pos, base-top, top-lo, top-hi}
+use Rattle.tree_rules.proofs.Norms.{size_pos, base-top, top-lo, top-hi}
 use Rattle.tree_rules.proofs.Joins.{join_step, normal-join, size-join, top-join, sunk_le}
 use Rattle.tree_clock.specs.declared.nodes.Node.{Node}
 use Rattle.tree_clock.specs.Flat.{Laid, Stands}

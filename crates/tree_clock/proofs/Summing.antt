@@ -1,12 +1,11 @@
 -- How `sum_into` lays out the sum of two ids.
 use Rattle.std.proofs.Common.{◌≡◌, ℕ, ◌+◌, ◌-◌, ◌<◌, ◌≤◌, min, List, length, true, false, ◌&&◌, sym, refl, ap, ap₂, ◌∙◌, arith}
-use Rattle.std.proofs.lemmas.Bool.{cond_both, or_from}
+use Rattle.std.proofs.lemmas.Bool.{cond_both, or_from, true≢false, false≢true}
 use Rattle.tree_rules.specs.Ids.{Id, off, on, pair, id_size, is_off, is_on, NormalId, norm_id}
 use Rattle.tree_rules.specs.Events.{Event, leaf, node, size, top, low, less, twins, norm, Normal}
 use Rattle.tree_rules.specs.Shape.{shape}
 use Rattle.tree_rules.specs.Sum.{sum, overlap}
 use Rattle.tree_rules.proofs.IdLaws.{normal_some, normal-sum}
-use Rattle.tree_rules.proofs.Norms.{clash, clash'}
 use Rattle.tree_rules.proofs.Shapes.{size-shape, top-shape, normal-shape}
 use Rattle.tree_clock.specs.declared.nodes.Node.{Node}
 use Rattle.tree_clock.specs.Flat.{flat, Laid, Stands}
@@ -46,19 +45,19 @@ norm-shape : (i j : Id) → NormalId i → NormalId j → norm 0 (shape i) (shap
 unfolding norm
 norm-shape off off n m = refl
 norm-shape on on n m = refl
-norm-shape off on n m = norm-pair off on (λ p q. clash q, λ p q. clash p, n, m)
-norm-shape on off n m = norm-pair on off (λ p q. clash p, λ p q. clash q, n, m)
-norm-shape off (pair s t) n m = norm-pair off (pair s t) (λ p q. clash q, λ p q. clash p, n, m)
-norm-shape on (pair s t) n m = norm-pair on (pair s t) (λ p q. clash p, λ p q. clash q, n, m)
-norm-shape (pair l r) j n m = norm-pair (pair l r) j (λ p q. clash p, λ p q. clash p, n, m)
+norm-shape off on n m = norm-pair off on (λ p q. false≢true q, λ p q. false≢true p, n, m)
+norm-shape on off n m = norm-pair on off (λ p q. false≢true p, λ p q. false≢true q, n, m)
+norm-shape off (pair s t) n m = norm-pair off (pair s t) (λ p q. false≢true q, λ p q. false≢true p, n, m)
+norm-shape on (pair s t) n m = norm-pair on (pair s t) (λ p q. false≢true p, λ p q. false≢true q, n, m)
+norm-shape (pair l r) j n m = norm-pair (pair l r) j (λ p q. false≢true p, λ p q. false≢true p, n, m)
 
 pub some_room : (i j : Id) → (o : List Node) → id_size i + id_size j ≤ length o + 1 → 0 < length o
 some_room i j o h = omega (arith, id_size_pos i, id_size_pos j)
 
 -- the sides of an id that is a pair
 parts : (i : Id) → false ≡ is_leaf (shape i) → i ≡ pair (id_lo i) (id_hi i)
-parts off v = absurd (clash v)
-parts on v = absurd (clash v)
+parts off v = absurd (false≢true v)
+parts on v = absurd (false≢true v)
 parts (pair l r) v = refl
 
 normal-sides : (i : Id) → NormalId i → NormalId (id_lo i) × NormalId (id_hi i)
@@ -130,31 +129,31 @@ module _ (i j : Id) (v : false ≡ is_off i) (w : false ≡ is_off j) where
   first_one = one_beside i v
     where
       one_beside : (i : Id) → false ≡ is_off i → NormalId j → true ≡ is_leaf (shape i) → overlap i j ≡ true
-      one_beside off v m h = absurd (clash v)
+      one_beside off v m h = absurd (false≢true v)
       one_beside on v m h = normal_some j m (sym w)
-      one_beside (pair l r) v m h = absurd (clash' h)
+      one_beside (pair l r) v m h = absurd (true≢false h)
 
   pub second_one : NormalId i → true ≡ is_leaf (shape j) → overlap i j ≡ true
   second_one = beside_one j w i v
     where
       beside_one : (j : Id) → false ≡ is_off j → (i : Id) → false ≡ is_off i → NormalId i → true ≡ is_leaf (shape j) → overlap i j ≡ true
-      beside_one off w i v n h = absurd (clash w)
-      beside_one on w off v n h = absurd (clash v)
+      beside_one off w i v n h = absurd (false≢true w)
+      beside_one on w off v n h = absurd (false≢true v)
       beside_one on w on v n h = refl
       beside_one on w (pair l r) v n h = normal_some (pair l r) n refl
-      beside_one (pair l r) w i v n h = absurd (clash' h)
+      beside_one (pair l r) w i v n h = absurd (true≢false h)
 
 -- beside 0
 pub zero_first : (i j : Id) → true ≡ is_off i → (overlap i j ≡ false) × (sum i j ≡ j)
 zero_first off j h = (refl, refl)
-zero_first on j h = absurd (clash' h)
-zero_first (pair l r) j h = absurd (clash' h)
+zero_first on j h = absurd (true≢false h)
+zero_first (pair l r) j h = absurd (true≢false h)
 
 pub zero_second : (i j : Id) → true ≡ is_off j → (overlap i j ≡ false) × (sum i j ≡ i)
 zero_second off off h = (refl, refl)
 zero_second on off h = (refl, refl)
 zero_second (pair l r) off h = (refl, refl)
-zero_second i on h = absurd (clash' h)
-zero_second i (pair l r) h = absurd (clash' h)
+zero_second i on h = absurd (true≢false h)
+zero_second i (pair l r) h = absurd (true≢false h)
 
 pub ruleset summing = (from_long, written_long, size-shape, zero_first, zero_second)

@@ -6,6 +6,7 @@ use Rattle.std.specs.Ordering.{eq_of_both, on}
 use Rattle.std.proofs.lemmas.Bool.{false≢true, and_parts, and_from, eqb-true, eq-eqb}
 use Rattle.std.proofs.lemmas.Slice.Eq.{slice_eq-Decides}
 use Rattle.std.proofs.Math.Dec.{eqb}
+use Rattle.clock.proofs.Tests.{same_test}
 use Rattle.tree_rules.specs.Events.{Event, leaf, node, size, lo, hi}
 use Rattle.tree_rules.proofs.Norms.{size_pos}
 use Rattle.tree_clock.specs.declared.nodes.Node.{Node}
@@ -73,16 +74,11 @@ one_event e f r w =
     let d = slice_eq-Decides node_eq-Decides (flat e) (flat f) r w in
     (λ k. flat-same e f (d.0 k), λ k. d.1 (ap flat k))
 
-one_truth : (a b : Bool) → (a ≡ true → b ≡ true) → (b ≡ true → a ≡ true) → a ≡ b
-one_truth true b f g = sym (f refl)
-one_truth false true f g = g refl
-one_truth false false f g = refl
-
 -- a test for one list of nodes is the test for one tree
 pub event_test : (s t : List Node) (e f : Event) → s ≡ flat e → t ≡ flat f → (r : Bool) → (r ≡ true) ↔ (s ≡ t) → r ≡ same_event e f
 event_test s t e f p q r h =
     let d = slice_eq-Decides node_eq-Decides (flat e) (flat f) (same_event e f) refl in
-    one_truth r (same_event e f) (λ k. d.1 (sym p ∙ h.0 k ∙ q)) (λ k. h.1 (p ∙ d.0 k ∙ sym q))
+    same_test r (same_event e f) (λ k. d.1 (sym p ∙ h.0 k ∙ q)) (λ k. h.1 (p ∙ d.0 k ∙ sym q))
 
 -- a tree at the front of a list
 module _ (o : List Node) (n : ℕ) (e : Event) (w : Stands o n e) where

@@ -1,10 +1,8 @@
 -- The flat form of an event tree: its length, its head, and its two parts.
-use Rattle.std.specs.Prelude.{◌≡◌, ℕ, suc, ◌+◌, ◌-◌, ◌<◌, ◌≤◌, List, [], ◌∷◌, ◌++◌, length, take, drop, ◌==◌, ◌≢◌, slice_index_or, refl}
-use Rattle.std.proofs.Common.{sym, ap, ap₂, ◌∙◌, arith, le_of_eq, length-append, length-drop, take_at, drop_at, take_all, ne_eqb}
+use Rattle.std.specs.Prelude.{◌≡◌, ℕ, suc, ◌+◌, ◌-◌, ◌<◌, ◌≤◌, List, ◌++◌, length, take, drop, ◌≢◌, slice_index_or, refl}
+use Rattle.std.proofs.Common.{sym, ap, ap₂, ◌∙◌, arith, le_of_eq, length-append, length-drop, take_at, drop_at, take_all}
 use Rattle.tree_clock.specs.declared.nodes.Node.{Node}
 use Rattle.tree_rules.specs.Events.{Event, leaf, node, size, lo, hi, base}
-use Rattle.tree_rules.specs.Ids.{Id, off, on, pair, is_off, is_on}
-use Rattle.tree_rules.specs.Shape.{shape}
 use Rattle.tree_rules.proofs.Norms.{size_pos}
 use Rattle.tree_clock.specs.Flat.{flat, filler, Flat}
 

@@ -3,10 +3,10 @@
 -- Adds i h e g     at every place of 2^h g has no less than e, and the same where i is not 1
 -- Gains i h e g    a place of 2^h where i is 1 and g has more than e
 use Rattle.std.proofs.Common.{◌≡◌, ℕ, zero, suc, ◌+◌, ◌-◌, ◌^◌, ◌<◌, ◌≤◌, max, Bool, true, false, sym, refl, ap, ◌∙◌, arith, le-ltb, lt-ltb}
+use Rattle.std.proofs.lemmas.Bool.{true≢false, false≢true}
 use Rattle.tree_rules.specs.Ids.{Id, off, on, pair, is_on, owns}
 use Rattle.tree_rules.specs.Events.{Event, leaf, node, depth, base, lo, hi, value, low, top, norm, Normal}
 use Rattle.tree_rules.specs.Fill.{filled, fill}
-use Rattle.tree_rules.proofs.Norms.{clash, clash'}
 use Rattle.tree_rules.proofs.Values.{double, value-lo, value-hi, halves, value-top, OverBoth, norm-keeps}
 use Rattle.tree_rules.proofs.Fills.{normal-fill}
 
@@ -44,9 +44,9 @@ module _ (l r : Id) (h : ℕ) (e g A B : Event) (k : OverBoth h (base e) A B g) 
 
 -- a leaf no smaller than the tree adds under 1
 adds_leaf : (l : Id) (h : ℕ) (a : Event) (c : ℕ) → is_on l ≡ true → top a ≤ c → Adds l h a (leaf c)
-adds_leaf off h a c e p = absurd (clash e)
-adds_leaf on h a c e p = λ x q. (omega (arith, value-top a h x), λ z. absurd (clash' z))
-adds_leaf (pair l r) h a c e p = absurd (clash e)
+adds_leaf off h a c e p = absurd (false≢true e)
+adds_leaf on h a c e p = λ x q. (omega (arith, value-top a h x), λ z. absurd (true≢false z))
+adds_leaf (pair l r) h a c e p = absurd (false≢true e)
 
 module _ (l r : Id) (h n : ℕ) (a b a' b' : Event) (na : Normal a') (nb : Normal b') (x : Adds l h a a') (y : Adds r h b b') where
   filled_adds : (s t : Bool) → is_on l ≡ s → is_on r ≡ t → Adds (pair l r) (suc h) (node n a b) (filled s t n a b a' b')

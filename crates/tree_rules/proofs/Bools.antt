@@ -1,13 +1,11 @@
 -- Facts of tests that the shelf does not have.
-use Rattle.std.proofs.Common.{◌≡◌, Bool, true, false, cond, ◌&&◌, ◌||◌, ◌⊎◌, sym, refl, inl, inr}
+use Rattle.std.proofs.Common.{ℕ, ◌<◌, ltb, ltb-true, lt-ltb, ◌≡◌, Bool, true, false, cond, ◌&&◌, ◌||◌, ◌⊎◌, refl, inl, inr}
 use Rattle.std.proofs.lemmas.Bool.{or_left, or_right}
+use Rattle.clock.proofs.Tests.{same_test}
 
--- two tests that say yes for the same reasons are one
-pub same_test : (s t : Bool) → (s ≡ true → t ≡ true) → (t ≡ true → s ≡ true) → s ≡ t
-same_test true true p q = refl
-same_test true false p q = sym (p refl)
-same_test false true p q = q refl
-same_test false false p q = refl
+-- two comparisons that say yes together are one
+pub same_ltb : (a b c d : ℕ) → (a < b → c < d) → (c < d → a < b) → ltb a b ≡ ltb c d
+same_ltb a b c d f g = same_test _ _ (λ p. lt-ltb c d (f (ltb-true a b p))) (λ p. lt-ltb a b (g (ltb-true c d p)))
 
 pub and_no : (a : Bool) → (a && false) ≡ false
 and_no true = refl
@@ -20,11 +18,6 @@ or_no false = refl
 pub or_mono : (a b c d : Bool) → (a ≡ true → c ≡ true) → (b ≡ true → d ≡ true) → (a || b) ≡ true → (c || d) ≡ true
 or_mono true b c d p q h = or_left c d (p refl)
 or_mono false b c d p q h = or_right c d (q h)
-
--- a sum, where t says yes, is a sum within t
-pub and_or : (t a b c : Bool) → (t ≡ true → a ≡ (b || c)) → (t && a) ≡ ((t && b) || (t && c))
-and_or true a b c p = p refl
-and_or false a b c p = refl
 
 pub cond_same : (t a : Bool) → a ≡ cond t a a
 cond_same true a = refl

@@ -1,11 +1,11 @@
 -- Canonicity: two event trees in normal form with the same value at every place are one tree.
-use Rattle.std.proofs.Common.{◌≡◌, ℕ, zero, suc, ◌+◌, ◌-◌, ◌^◌, ◌<◌, ◌≤◌, min, Bool, true, false, cond, eqb, ltb, sym, refl, ap, ◌∙◌, arith, pow_pos, eq-eqb, eqb-true}
+use Rattle.std.proofs.Common.{◌≡◌, ℕ, zero, suc, ◌+◌, ◌-◌, ◌^◌, ◌<◌, ◌≤◌, min, Bool, true, false, cond, eqb, ltb, sym, refl, ap, arith, pow_pos, eq-eqb, eqb-true}
 use native.Mathlib.Decide.{dec_lt}
 use borrow.Author.Tests.{eqb-false}
-use Rattle.std.proofs.lemmas.Bool.{and_parts, and_from}
+use Rattle.std.proofs.lemmas.Bool.{and_parts, and_from, false≢true}
 use Rattle.tree_rules.specs.Events.{Event, leaf, node, base, low, lo, hi, value, depth, twins, Normal, same}
-use Rattle.tree_rules.proofs.Norms.{normal-low, clash}
-use Rattle.tree_rules.proofs.Values.{value-lo, value-hi, double}
+use Rattle.tree_rules.proofs.Norms.{normal-low}
+use Rattle.tree_rules.proofs.Values.{Taken, taken_lo, taken_hi, value-lo, value-hi, double}
 
 cond_least : (t : Bool) (a c m : ℕ) → m ≤ a → m ≤ c → m ≤ cond t a c
 cond_least true a c m p q = p
@@ -20,15 +20,13 @@ low_value (node n l r) (suc h) x d =
     omega (arith, cond_least (ltb x (2 ^ h)) (value l h x) (value r h (x - 2 ^ h)) (min (low l) (low r)) (omega (arith, a)) (omega (arith, b)))
 
 -- the smallest value is taken somewhere
-pub low-at : (e : Event) (h : ℕ) → depth e ≤ h → (x : ℕ) × (x < 2 ^ h) × (value e h x ≡ low e)
+pub low-at : (e : Event) (h : ℕ) → depth e ≤ h → Taken e h (low e)
 low-at (leaf n) h d = (0, pow_pos h, refl)
 low-at (node n l r) zero d = absurd (omega arith)
 low-at (node n l r) (suc h) d =
-    let a = low-at l h (omega arith) in
-    let b = low-at r h (omega arith) in
     elim (dec_lt (low l) (low r)) [
-      | yes q ↦ (a.0, omega (arith, double h, a.1), value-lo (node n l r) h a.0 a.1 ∙ omega (arith, a.2))
-      | no q ↦ (2 ^ h + b.0, omega (arith, double h, b.1), value-hi (node n l r) h b.0 ∙ omega (arith, b.2))
+      | yes q ↦ taken_lo n l r h (low l) _ (omega arith) (low-at l h (omega arith))
+      | no q ↦ taken_hi n l r h (low r) _ (omega arith) (low-at r h (omega arith))
     ]
 
 abbrev pub EqualValues : ℕ → Event → Event → Type 0
@@ -74,8 +72,8 @@ canonical (suc h) (node n l r) (node m k t) a b d g s =
 -- the test `same` tells whether two trees are one
 pub same_is : (e f : Event) → same e f ≡ true → e ≡ f
 same_is (leaf m) (leaf n) h = ap leaf (eqb-true m n h)
-same_is (leaf m) (node n l r) h = absurd (clash h)
-same_is (node m a b) (leaf n) h = absurd (clash h)
+same_is (leaf m) (node n l r) h = absurd (false≢true h)
+same_is (node m a b) (leaf n) h = absurd (false≢true h)
 same_is (node m a b) (node n l r) h =
     let p = and_parts (eqb m n) _ h in
     let q = and_parts (same a l) _ p.1 in

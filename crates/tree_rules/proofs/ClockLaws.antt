@@ -10,10 +10,11 @@ use Rattle.tree_rules.specs.Events.{Event, size, depth, value}
 use Rattle.tree_rules.specs.Join.{join}
 use Rattle.tree_rules.specs.Kind.{tree}
 use Rattle.tree_rules.proofs.Made.{made_event, event-from}
-use Rattle.tree_rules.proofs.Dues.{due-none, due_some}
+use Rattle.clock.proofs.Dues.{due-none, due_some}
 use Rattle.tree_rules.proofs.Joins.{normal-join, depth-join, top-join, join-value}
 use Rattle.tree_rules.proofs.Covering.{Over, covers_decides}
-use Rattle.tree_rules.proofs.Bools.{and_no, and_or}
+use Rattle.clock.proofs.Tests.{and_or}
+use Rattle.tree_rules.proofs.Bools.{and_no}
 
 pub blank_made : Yes (tree.clock_made tree.blank)
 blank_made = refl

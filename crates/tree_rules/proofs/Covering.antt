@@ -1,14 +1,14 @@
 -- The test of covers tells whether one tree has at least the other's value at every place, and so does the walk over the second's nodes.
-use Rattle.std.proofs.Common.{◌≡◌, ℕ, zero, suc, ◌+◌, ◌^◌, ◌<◌, ◌≤◌, true, leb, ◌↔◌, refl, ◌∙◌, arith, pow_pos, le-leb, leb-true}
+use Rattle.std.proofs.Common.{◌≡◌, ℕ, zero, suc, ◌+◌, ◌^◌, ◌<◌, ◌≤◌, true, leb, ◌↔◌, refl, arith, pow_pos, le-leb, leb-true}
 use native.Mathlib.Decide.{dec_lt}
 use Rattle.std.proofs.lemmas.Bool.{and_parts, and_from}
 use Rattle.tree_rules.specs.Events.{Event, leaf, node, depth, base, lo, hi, value, top, Normal}
 use Rattle.tree_rules.specs.Join.{covers_up}
 use Rattle.tree_rules.specs.Walk.{fits_up}
 use Rattle.tree_rules.proofs.Norms.{normal-low, normal-lo, normal-hi}
-use Rattle.tree_rules.proofs.Values.{double, value-lo, value-hi, halves, depth-lo, depth-hi, value-top, value-base}
+use Rattle.tree_rules.proofs.Values.{Taken, taken_lo, taken_hi, double, value-lo, value-hi, halves, depth-lo, depth-hi, value-top, value-base}
 use Rattle.tree_rules.proofs.Canon.{low-at}
-use Rattle.tree_rules.proofs.Bools.{same_test}
+use Rattle.clock.proofs.Tests.{same_test}
 
 -- at every place of 2^h, e over u has at least the value of f over v
 abbrev pub Over : ℕ → ℕ → Event → ℕ → Event → Type 0
@@ -28,15 +28,13 @@ module _ (h u : ℕ) (e : Event) (v : ℕ) (f : Event) where
       (λ y q. omega (arith, value-hi e h y, value-hi f h y, b y q))
 
 -- the largest value is taken somewhere
-pub top-at : (e : Event) (h : ℕ) → depth e ≤ h → (x : ℕ) × (x < 2 ^ h) × (value e h x ≡ top e)
+pub top-at : (e : Event) (h : ℕ) → depth e ≤ h → Taken e h (top e)
 top-at (leaf n) h d = (0, pow_pos h, refl)
 top-at (node n l r) zero d = absurd (omega arith)
 top-at (node n l r) (suc h) d =
-    let a = top-at l h (omega arith) in
-    let b = top-at r h (omega arith) in
     elim (dec_lt (top r) (top l)) [
-      | yes q ↦ (a.0, omega (arith, double h, a.1), value-lo (node n l r) h a.0 a.1 ∙ omega (arith, a.2))
-      | no q ↦ (2 ^ h + b.0, omega (arith, double h, b.1), value-hi (node n l r) h b.0 ∙ omega (arith, b.2))
+      | yes q ↦ taken_lo n l r h (top l) _ (omega arith) (top-at l h (omega arith))
+      | no q ↦ taken_hi n l r h (top r) _ (omega arith) (top-at r h (omega arith))
     ]
 
 leaf_over : (h m u : ℕ) (f : Event) (v : ℕ) → depth f ≤ h → Over h u (leaf m) v f → v + top f ≤ u + m

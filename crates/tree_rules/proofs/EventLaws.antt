@@ -42,16 +42,16 @@ module _ {X : Type 0} (x y z : X) where
   first_of a b c = first (due a x ∷ due b y ∷ due c z ∷ [])
 
   none-due : (a b c : Bool) → first_of a b c ≡ None → (a ≡ false) × (b ≡ false) × (c ≡ false)
-  none-due true b c p = let q : ◌≡◌ {A = ℕ} 0 1 = cc in absurd (omega arith)
-  none-due false true c p = let q : ◌≡◌ {A = ℕ} 0 1 = cc in absurd (omega arith)
-  none-due false false true p = let q : ◌≡◌ {A = ℕ} 0 1 = cc in absurd (omega arith)
+  none-due true b c p = absurd (cc)
+  none-due false true c p = absurd (cc)
+  none-due false false true p = absurd (cc)
   none-due false false false p = (refl, refl, refl)
 
   one_due : (a b c : Bool) (w : X) → first_of a b c ≡ Some w → (w ≡ x) ⊎ ((w ≡ y) ⊎ (w ≡ z))
   one_due true b c w p = inl (cc)
   one_due false true c w p = inr (inl (cc))
   one_due false false true w p = inr (inr (cc))
-  one_due false false false w p = let q : ◌≡◌ {A = ℕ} 0 1 = cc in absurd (omega arith)
+  one_due false false false w p = absurd (cc)
 
 -- a value no smaller at every place keeps the marks; what it adds is the id's
 module _ (i : Id) (e g : Event) (a : Adds i 12 e g) where

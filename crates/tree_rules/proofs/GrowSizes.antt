@@ -1,10 +1,10 @@
 -- Where fill changes nothing, the cost of growing tells the size of the grown tree: two nodes more for each 1,000.
 use Rattle.std.proofs.Common.{◌≡◌, ℕ, ◌+◌, ◌*◌, ◌/◌, ◌≤◌, true, false, cond, refl, ap, arith}
+use Rattle.std.proofs.lemmas.Bool.{true≢false}
 use Rattle.tree_rules.specs.Ids.{Id, off, on, pair, is_off, id_depth, NormalId}
 use Rattle.tree_rules.specs.Events.{Event, leaf, node, size, lo, hi}
 use Rattle.tree_rules.specs.Fill.{fill}
 use Rattle.tree_rules.specs.Grow.{extra, cost, grow}
-use Rattle.tree_rules.proofs.Norms.{clash'}
 use Rattle.tree_rules.proofs.Stills.{still}
 use Rattle.tree_rules.proofs.Grows.{grown_at}
 use Rattle.tree_rules.proofs.Growing.{chosen}
@@ -24,7 +24,7 @@ branches (node n l r) = omega arith
 
 splits : (i : Id) (e : Event) → NormalId i → is_off i ≡ false → fill i e ≡ e → Splits i (cost i e) e (grow i e)
 unfolding cost grow
-splits off e d f w = absurd (clash' f)
+splits off e d f w = absurd (true≢false f)
 splits on e d f w = (0, 0, refl, omega arith, omega (arith, ap size w))
 splits (pair l r) e d f w =
     let S = still l r e d.1 w in

@@ -1,10 +1,11 @@
 -- Where fill changes nothing, grow keeps normal form and adds only at the id's places, and at one.
 use Rattle.std.proofs.Common.{◌≡◌, ℕ, zero, suc, ◌+◌, ◌≤◌, min, Bool, true, false, ltb, sym, refl, ap, ◌∙◌, arith, pow_pos, ne_eqb}
+use Rattle.std.proofs.lemmas.Bool.{true≢false, false≢true}
 use Rattle.tree_rules.specs.Ids.{Id, off, on, pair, is_off, is_on, id_depth, NormalId}
 use Rattle.tree_rules.specs.Events.{Event, leaf, node, depth, base, lo, hi, value, low, top, twins, Normal}
 use Rattle.tree_rules.specs.Fill.{fill}
 use Rattle.tree_rules.specs.Grow.{lowers, cost, grow}
-use Rattle.tree_rules.proofs.Norms.{clash, clash', normal-low, normal-lo, normal-hi}
+use Rattle.tree_rules.proofs.Norms.{normal-low, normal-lo, normal-hi}
 use Rattle.tree_rules.proofs.Values.{value-lo, value-hi, depth-lo, depth-hi, OverBoth}
 use Rattle.tree_rules.proofs.Adding.{Adds, Gains, adds_same, adds_both, gains_lower, gains_upper}
 use Rattle.tree_rules.proofs.Stills.{inner, still}
@@ -30,7 +31,7 @@ abbrev Grown : Id → Event → Type 0
 Grown i e = Normal (grow i e) × (is_on i ≡ false → (base (grow i e) ≡ base e) × (inner (grow i e) ≡ true)) × (is_on i ≡ true → grow i e ≡ leaf (base e + 1))
 
 inner-twins : (l r : Event) → inner l ≡ true → (twins l r ≡ false) × (twins r l ≡ false)
-inner-twins (leaf n) r p = absurd (clash p)
+inner-twins (leaf n) r p = absurd (false≢true p)
 inner-twins (node n s t) (leaf m) p = (refl, refl)
 inner-twins (node n s t) (node m u v) p = (refl, refl)
 
@@ -69,15 +70,15 @@ module _ (l r : Id) (e : Event) (d : NormalId (pair l r)) (n : Normal e) (w : fi
 
 grown : (i : Id) (e : Event) → NormalId i → is_off i ≡ false → Normal e → fill i e ≡ e → Grown i e
 unfolding grow
-grown off e d f n w = absurd (clash' f)
-grown on e d f n w = (tt, λ q. absurd (clash' q), λ _. refl)
+grown off e d f n w = absurd (true≢false f)
+grown on e d f n w = (tt, λ q. absurd (true≢false q), λ _. refl)
 grown (pair l r) e d f n w =
     let S = still l r e d.1 w in
     let F =
     chosen (λ t. Fine l r e d n w (grown_at l r e t)) l r e d
     (λ h. fine_lower l r e d n w (grown l (lo e) d.2 h (normal-lo e n) S.lower))
     (λ h. fine_upper l r e d n w (grown r (hi e) d.3 h (normal-hi e n) S.upper)) in
-    (F.0, λ _. (F.1, F.2), λ q. absurd (clash q))
+    (F.0, λ _. (F.1, F.2), λ q. absurd (false≢true q))
 
 pub normal-grow : (i : Id) (e : Event) → NormalId i → is_off i ≡ false → Normal e → fill i e ≡ e → Normal (grow i e)
 normal-grow i e d f n w = (grown i e d f n w).0
@@ -109,9 +110,9 @@ module _ (l r : Id) (h : ℕ) (e : Event) where
 
 pub grow_adds : (i : Id) (h : ℕ) (e : Event) → NormalId i → is_off i ≡ false → Normal e → fill i e ≡ e → depth e ≤ h → id_depth i ≤ h → Adds i h e (grow i e) × Gains i h e (grow i e)
 unfolding grow
-grow_adds off h e d f n w k j = absurd (clash' f)
+grow_adds off h e d f n w k j = absurd (true≢false f)
 grow_adds on h e d f n w k j =
-    (λ x p. (omega (arith, leaf_value e (top e) h x w), λ z. absurd (clash' z)), (0, pow_pos h, refl, omega (arith, leaf_value e (top e) h 0 w)))
+    (λ x p. (omega (arith, leaf_value e (top e) h x w), λ z. absurd (true≢false z)), (0, pow_pos h, refl, omega (arith, leaf_value e (top e) h 0 w)))
 grow_adds (pair l r) zero e d f n w k j = absurd (omega arith)
 grow_adds (pair l r) (suc h) e d f n w k j =
     let S = still l r e d.1 w in

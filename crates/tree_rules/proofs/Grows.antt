@@ -1,10 +1,10 @@
 -- What grow gives, for any id and tree: its step at a pair, its cost, size, depth and largest value.
-use Rattle.std.proofs.Common.{◌≡◌, ℕ, ◌+◌, ◌-◌, ◌*◌, ◌<◌, ◌≤◌, max, Bool, true, false, cond, ltb, refl, arith, le-ltb, lt-ltb}
-use native.Mathlib.Decide.{dec_lt}
+use Rattle.std.proofs.Common.{◌≡◌, ℕ, ◌+◌, ◌-◌, ◌*◌, ◌≤◌, max, Bool, true, false, cond, ltb, refl, arith}
 use Rattle.tree_rules.specs.Ids.{Id, off, on, pair, is_off, id_depth}
 use Rattle.tree_rules.specs.Events.{Event, leaf, node, size, depth, base, lo, hi, top}
 use Rattle.tree_rules.specs.Grow.{extra, lowers, cost, grow}
 use Rattle.tree_rules.specs.Reach.{reached}
+use Rattle.tree_rules.proofs.Bools.{same_ltb}
 use Rattle.tree_rules.proofs.Norms.{size_pos, base-top, top-lo, top-hi}
 
 -- whether the lower branch of e grows under (l,r)
@@ -106,17 +106,7 @@ pub top-grow-over : (m : ℕ) (i : Id) (e : Event) (u : ℕ) → u + top e ≤ m
 top-grow-over m i e u p =
     let a = top-grow_most i e u in
     let b = reached-top i e u in
-    same_test m (u + top (grow i e)) (reached i e u) (λ q. omega arith) (λ q. omega arith)
-  where
-    same_test : (m a b : ℕ) → (m < a → m < b) → (m < b → m < a) → ltb m a ≡ ltb m b
-    same_test m a b f g =
-        elim (dec_lt m a) [
-          | yes q ↦ rw (lt-ltb m a q, lt-ltb m b (f q))
-          | no q ↦
-              let n : b ≤ m = elim (dec_lt m b) [ yes w ↦ absurd (q (g w)) | no w ↦ omega arith ] in
-              let k : a ≤ m = omega arith in
-              rw (le-ltb m a k, le-ltb m b n)
-        ]
+    same_ltb m (u + top (grow i e)) m (reached i e u) (λ q. omega arith) (λ q. omega arith)
 
 pub top-grow : (i : Id) (e : Event) → top e ≤ 65535 → ltb 65535 (top (grow i e)) ≡ ltb 65535 (reached i e 0)
 top-grow i e p =

@@ -1,9 +1,8 @@
 -- The places of an id, of the sum of two, and the places that two ids share.
 use Rattle.std.proofs.Common.{◌≡◌, ℕ, zero, suc, ◌+◌, ◌-◌, ◌^◌, ◌<◌, ◌≤◌, max, true, false, ◌&&◌, ◌||◌, ltb, sym, refl, ◌∙◌, inl, inr, arith, pow_pos, le-ltb, lt-ltb}
-use Rattle.std.proofs.lemmas.Bool.{both_ways, and_from, or_cases, or_left, or_right, cond_both}
+use Rattle.std.proofs.lemmas.Bool.{both_ways, and_from, or_cases, or_left, or_right, cond_both, true≢false, false≢true}
 use Rattle.tree_rules.specs.Ids.{Id, off, on, pair, id_depth, is_off, is_on, owns, NormalId, norm_id}
 use Rattle.tree_rules.specs.Sum.{sum, some_place, overlap}
-use Rattle.tree_rules.proofs.Norms.{clash, clash'}
 use Rattle.tree_rules.proofs.Values.{double}
 use Rattle.tree_rules.proofs.Bools.{or_no, or_mono, cond_or, cond_same, one_yes, same_side}
 
@@ -28,7 +27,7 @@ shared-hi h l r s t (x, b, p, q) = (2 ^ h + x, omega (arith, double h), owns-hi 
 
 -- an id that has some place is 1 there
 pub some_at : (i : Id) (h : ℕ) → id_depth i ≤ h → some_place i ≡ true → Shared h i i
-some_at off h d p = absurd (clash p)
+some_at off h d p = absurd (false≢true p)
 some_at on h d p = (0, pow_pos h, refl, refl)
 some_at (pair l r) zero d p = absurd (omega arith)
 some_at (pair l r) (suc h) d p =
@@ -40,12 +39,12 @@ some_at (pair l r) (suc h) d p =
 pub at_some : (i : Id) (h x : ℕ) → owns i h x ≡ true → some_place i ≡ true
 at_some off h x p = p
 at_some on h x p = refl
-at_some (pair l r) zero x p = absurd (clash p)
+at_some (pair l r) zero x p = absurd (false≢true p)
 at_some (pair l r) (suc h) x p = or_mono _ _ _ _ (at_some l h x) (at_some r h (x - 2 ^ h)) (one_yes (ltb x (2 ^ h)) _ _ p)
 
 -- in normal form only 0 has no place
 pub normal_some : (i : Id) → NormalId i → is_off i ≡ false → some_place i ≡ true
-normal_some off n p = absurd (clash' p)
+normal_some off n p = absurd (true≢false p)
 normal_some on n p = refl
 normal_some (pair l r) n p = some_side l r n.0 (normal_some l n.2) (normal_some r n.3)
   where
@@ -57,9 +56,9 @@ normal_some (pair l r) n p = some_side l r n.0 (normal_some l n.2) (normal_some 
     some_side (pair s t) r n p q = or_left _ _ (p refl)
 
 pub overlap-at : (h : ℕ) (i j : Id) → id_depth i ≤ h → id_depth j ≤ h → overlap i j ≡ true → Shared h i j
-overlap-at h off j d g p = absurd (clash p)
+overlap-at h off j d g p = absurd (false≢true p)
 overlap-at h on j d g p = let (x, b, o, w) = some_at j h g p in (x, b, refl, w)
-overlap-at h (pair l r) off d g p = absurd (clash p)
+overlap-at h (pair l r) off d g p = absurd (false≢true p)
 overlap-at h (pair l r) on d g p = let (x, b, o, w) = some_at (pair l r) h d p in (x, b, o, refl)
 overlap-at zero (pair l r) (pair s t) d g p = absurd (omega arith)
 overlap-at (suc h) (pair l r) (pair s t) d g p =
@@ -73,7 +72,7 @@ at-overlap off j h x p q = p
 at-overlap on j h x p q = at_some j h x q
 at-overlap (pair l r) off h x p q = q
 at-overlap (pair l r) on h x p q = at_some (pair l r) h x p
-at-overlap (pair l r) (pair s t) zero x p q = absurd (clash p)
+at-overlap (pair l r) (pair s t) zero x p q = absurd (false≢true p)
 at-overlap (pair l r) (pair s t) (suc h) x p q =
     elim (same_side (ltb x (2 ^ h)) _ _ _ _ p q) [
       | inl w ↦ or_left _ _ (at-overlap l s h x w.0 w.1)

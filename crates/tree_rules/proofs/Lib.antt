@@ -1,5 +1,4 @@
 pub mod Bools
-pub mod Dues
 pub mod Norms
 pub mod Values
 pub mod Canon

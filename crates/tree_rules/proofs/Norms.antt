@@ -1,14 +1,8 @@
 -- What norm gives: its size, its depth, its largest value, normal form.
 use Rattle.std.proofs.Common.{◌≡◌, ℕ, ◌+◌, ◌-◌, ◌<◌, ◌≤◌, min, max, Bool, true, false, cond, sym, refl, arith, ne_eqb, eqb-true}
+use Rattle.std.proofs.lemmas.Bool.{false≢true}
 use borrow.Author.Tests.{eqb-false}
 use Rattle.tree_rules.specs.Events.{Event, leaf, node, size, depth, base, lo, hi, low, top, less, twins, lifted, norm, Normal}
-
--- two tests that cannot both be answered so
-pub clash : false ≡ true → ⊥
-clash e = let z : ◌≡◌ {A = ℕ} 0 1 = cc in omega arith
-
-pub clash' : true ≡ false → ⊥
-clash' e = let z : ◌≡◌ {A = ℕ} 0 1 = cc in omega arith
 
 pub size_pos : (e : Event) → 0 < size e
 size_pos (leaf n) = omega arith
@@ -74,9 +68,9 @@ twins-less m (node n s t) (node k c d) p q h = refl
 
 pub twins_true : (l r : Event) → twins l r ≡ true → (top l ≡ low l) × (top r ≡ low l)
 twins_true (leaf a) (leaf b) h = (refl, sym (eqb-true a b h))
-twins_true (leaf a) (node n s t) h = absurd (clash h)
-twins_true (node n s t) (leaf b) h = absurd (clash h)
-twins_true (node n s t) (node k c d) h = absurd (clash h)
+twins_true (leaf a) (node n s t) h = absurd (false≢true h)
+twins_true (node n s t) (leaf b) h = absurd (false≢true h)
+twins_true (node n s t) (node k c d) h = absurd (false≢true h)
 
 module _ (n : ℕ) (l r : Event) where
   size_cond : (t : Bool) → size (cond t (leaf (n + low l)) (lifted n (min (low l) (low r)) l r)) ≤ 1 + (size l + size r)

@@ -10,10 +10,11 @@ use Rattle.tree_rules.specs.Split.{half}
 use Rattle.tree_rules.specs.Sum.{sum, overlap}
 use Rattle.tree_rules.specs.Kind.{tree}
 use Rattle.tree_rules.proofs.Made.{made_id, id_from}
-use Rattle.tree_rules.proofs.Dues.{due-none, due_some, first-none, first_some, last_some, first_here}
+use Rattle.clock.proofs.Dues.{due-none, due_some, first-none, first_some, last_some, first_here}
 use Rattle.tree_rules.proofs.IdLaws.{overlap-at, at-overlap, normal-sum, depth-sum, sum_places}
 use Rattle.tree_rules.proofs.SplitLaws.{normal_halves, size_halves, halves_places, halves_apart}
-use Rattle.tree_rules.proofs.Bools.{and_no, and_or}
+use Rattle.clock.proofs.Tests.{and_or}
+use Rattle.tree_rules.proofs.Bools.{and_no}
 
 pub seed_made : Yes (tree.pen_made tree.seed)
 seed_made = refl
@@ -64,14 +65,11 @@ unite_cause p q c made made' some =
       | inr a ↦ inr (last_some (ltb 63 (id_size (sum p q))) PenTooLarge c a.1)
     ]
 
-other_cause : PensOverlap ≡ PenTooLarge → ⊥
-other_cause p = let z : ◌≡◌ {A = ℕ} 0 1 = cc in omega arith
-
 overlap-due : (p q : Id) → tree.unite_due p q ≡ Some PensOverlap → overlap p q ≡ true
 overlap-due p q some =
     elim (first_some (overlap p q) PensOverlap _ PensOverlap some) [
       | inl a ↦ a.0
-      | inr a ↦ absurd (other_cause (last_some (ltb 63 (id_size (sum p q))) PenTooLarge PensOverlap a.1))
+      | inr a ↦ let e = last_some (ltb 63 (id_size (sum p q))) PenTooLarge PensOverlap a.1 in cc
     ]
 
 pub overlaps : (p q : Id) → Yes (tree.pen_made p) → Yes (tree.pen_made q) → (tree.unite_due p q ≡ Some PensOverlap) ↔ Overlap tree p q

@@ -1,13 +1,12 @@
 -- The definitions of split, sum and norm follow their rules.
 use Rattle.std.proofs.Common.{◌≡◌, ℕ, ◌+◌, min, Bool, true, false, ◌≢◌, refl, sym, ap, ◌∙◌, eqb-true, eq-eqb}
-use Rattle.std.proofs.lemmas.Bool.{cond-true, cond-false}
+use Rattle.std.proofs.lemmas.Bool.{cond-true, cond-false, false≢true}
 use Rattle.tree_rules.specs.Ids.{Id, off, on, pair, norm_id}
 use Rattle.tree_rules.specs.Events.{Event, leaf, node, low, less, twins, lifted, norm}
 use Rattle.tree_rules.specs.Split.{split}
 use Rattle.tree_rules.specs.Sum.{sum}
 use Rattle.tree_rules.specs.IdRules.{SplitRules, SumRules}
 use Rattle.tree_rules.specs.NormRules.{TwinLeaves, NormRules}
-use Rattle.tree_rules.proofs.Norms.{clash}
 
 split_upper : (i : Id) → split (pair i off) ≡ (pair (split i).0 off, pair (split i).1 off)
 split_upper off = refl
@@ -46,9 +45,9 @@ pair_stays (pair a b) r p q = refl
 -- the test of two equal leaves finds them
 twins_are : (l r : Event) → twins l r ≡ true → TwinLeaves l r
 twins_are (leaf a) (leaf b) e = (a, refl, ap leaf (sym (eqb-true a b e)))
-twins_are (leaf a) (node n l r) e = absurd (clash e)
-twins_are (node n l r) (leaf b) e = absurd (clash e)
-twins_are (node n l r) (node m s t) e = absurd (clash e)
+twins_are (leaf a) (node n l r) e = absurd (false≢true e)
+twins_are (node n l r) (leaf b) e = absurd (false≢true e)
+twins_are (node n l r) (node m s t) e = absurd (false≢true e)
 
 not_twins : (l r : Event) → (TwinLeaves l r → ⊥) → twins l r ≡ false
 not_twins l r differ = go (twins l r) refl

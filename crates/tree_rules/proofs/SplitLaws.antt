@@ -1,9 +1,8 @@
 -- The halves of an id: normal form, the size, and that they part its places.
 use Rattle.std.proofs.Common.{◌≡◌, ℕ, zero, suc, ◌+◌, ◌-◌, ◌*◌, ◌^◌, ◌<◌, ◌≤◌, max, Bool, true, false, cond, ◌&&◌, ◌||◌, ltb, refl, ◌∙◌, arith}
-use Rattle.std.proofs.lemmas.Bool.{both_ways}
+use Rattle.std.proofs.lemmas.Bool.{false_from_ne_true, both_ways, false≢true}
 use Rattle.tree_rules.specs.Ids.{Id, off, on, pair, id_size, id_depth, is_off, owns, NormalId}
 use Rattle.tree_rules.specs.Split.{half}
-use Rattle.tree_rules.proofs.Norms.{clash}
 use Rattle.tree_rules.proofs.Bools.{or_no, and_no, cond_or, cond_and}
 
 -- the rules of split: the halves of the first are the second and the third
@@ -34,21 +33,16 @@ split_off (apart p q) = (refl, refl)
 
 -- a pair with 0 on one side
 normal_above : (a : Id) → is_off a ≡ false → NormalId a → NormalId (pair off a)
-normal_above a p n = (λ _ q. both_ways (is_off a) p q, λ q _. clash q, tt, n)
+normal_above a p n = (λ _ q. both_ways (is_off a) p q, λ q _. false≢true q, tt, n)
 
 normal_below : (a : Id) → is_off a ≡ false → NormalId a → NormalId (pair a off)
-normal_below a p n = (λ q _. both_ways (is_off a) p q, λ _ q. clash q, n, tt)
-
-not_off : (i : Id) → (is_off i ≡ true → ⊥) → is_off i ≡ false
-not_off off p = absurd (p refl)
-not_off on p = refl
-not_off (pair l r) p = refl
+normal_below a p n = (λ q _. both_ways (is_off a) p q, λ _ q. false≢true q, n, tt)
 
 split-normal : {i a b : Id} → Splits i a b → NormalId i → NormalId a × NormalId b
 split-normal none n = (tt, tt)
 split-normal one n = (normal_below on refl tt, normal_above on refl tt)
 split-normal (above {r} {a} {b} s) n =
-    let q = not_off r (n.0 refl) in
+    let q = false_from_ne_true (is_off r) (n.0 refl) in
     let o = split_off s in
     let w = split-normal s n.3 in
     (normal_above a (o.0 ∙ q) w.0, normal_above b (o.1 ∙ q) w.1)

@@ -1,9 +1,9 @@
 -- What a triple that fill leaves unchanged says of its branches.
 use Rattle.std.proofs.Common.{◌≡◌, ℕ, ◌+◌, ◌-◌, ◌≤◌, min, max, Bool, true, false, cond, sym, refl, ap, ◌∙◌, arith}
+use Rattle.std.proofs.lemmas.Bool.{true≢false, false≢true}
 use Rattle.tree_rules.specs.Ids.{Id, off, on, pair, is_on}
 use Rattle.tree_rules.specs.Events.{Event, leaf, node, base, lo, hi, low, top, less, twins, lifted, norm}
 use Rattle.tree_rules.specs.Fill.{filled, fill}
-use Rattle.tree_rules.proofs.Norms.{clash, clash'}
 
 -- whether a tree is a triple
 abbrev pub inner : Event → Bool
@@ -16,7 +16,7 @@ less_none (node n l r) = let e : n - 0 ≡ n = omega arith in λ i. node (e i) l
 
 module _ (n : ℕ) (l r a b : Event) where
   back_cond : (t : Bool) → cond t (leaf (n + low l)) (lifted n (min (low l) (low r)) l r) ≡ node n a b → (l ≡ a) × (r ≡ b)
-  back_cond true e = absurd (clash (ap inner e))
+  back_cond true e = absurd (false≢true (ap inner e))
   back_cond false e =
       let z : n + min (low l) (low r) ≡ n = ap base e in
       let m : min (low l) (low r) ≡ 0 = omega arith in
@@ -35,9 +35,9 @@ pub record Still (l r : Id) (a b : Event) : Type 0 where
   pub above : is_on r ≡ true → low a ≤ base b
 
 leaf_still : (l : Id) (a : Event) (k : ℕ) → is_on l ≡ true → leaf k ≡ a → fill l a ≡ a
-leaf_still off a k e p = absurd (clash e)
+leaf_still off a k e p = absurd (false≢true e)
 leaf_still on a k e p = ap (λ z. leaf (top z)) (sym p) ∙ p
-leaf_still (pair l r) a k e p = absurd (clash e)
+leaf_still (pair l r) a k e p = absurd (false≢true e)
 
 still_cases : (l r : Id) (s t : Bool) → is_on l ≡ s → is_on r ≡ t → (s ≡ true → t ≡ true → ⊥) → (n : ℕ) (a b : Event) → filled s t n a b (fill l a) (fill r b) ≡ node n a b → Still l r a b
 still_cases l r true true p q d n a b e = absurd (d refl refl)
@@ -47,14 +47,14 @@ still_cases l r true false p q d n a b e =
       lower = leaf_still l a _ p z.0;
       upper = z.1;
       below = λ _. omega (arith, ap base z.0, ap low z.1);
-      above = λ w. absurd (clash' (sym w ∙ q));
+      above = λ w. absurd (true≢false (sym w ∙ q));
     }
 still_cases l r false true p q d n a b e =
     let z = norm_back n (fill l a) (leaf (max (top b) (low (fill l a)))) a b e in
     record {
       lower = z.0;
       upper = leaf_still r b _ q z.1;
-      below = λ w. absurd (clash' (sym w ∙ p));
+      below = λ w. absurd (true≢false (sym w ∙ p));
       above = λ _. omega (arith, ap base z.1, ap low z.0);
     }
 still_cases l r false false p q d n a b e =
@@ -62,8 +62,8 @@ still_cases l r false false p q d n a b e =
     record {
       lower = z.0;
       upper = z.1;
-      below = λ w. absurd (clash' (sym w ∙ p));
-      above = λ w. absurd (clash' (sym w ∙ q));
+      below = λ w. absurd (true≢false (sym w ∙ p));
+      above = λ w. absurd (true≢false (sym w ∙ q));
     }
 
 zero_still : (l : Id) → fill l (leaf 0) ≡ leaf 0

@@ -1,8 +1,9 @@
 -- The values of an event tree at the places of its two halves, and that norm keeps them.
 use Rattle.std.proofs.Common.{◌≡◌, ℕ, zero, suc, ◌+◌, ◌-◌, ◌^◌, ◌<◌, ◌≤◌, min, max, Bool, true, false, cond, ltb, sym, refl, ◌∙◌, subst, pow-suc, arith, le-ltb, lt-ltb, eqb-true}
+use Rattle.std.proofs.lemmas.Bool.{false≢true}
 use native.Mathlib.Decide.{dec_lt}
 use Rattle.tree_rules.specs.Events.{Event, leaf, node, depth, base, lo, hi, value, low, top, less, twins, lifted, norm, Normal}
-use Rattle.tree_rules.proofs.Norms.{normal-low, clash}
+use Rattle.tree_rules.proofs.Norms.{normal-low}
 
 pub double : (h : ℕ) → 2 ^ suc h ≡ 2 ^ h + 2 ^ h
 double h = omega (arith, pow-suc 2 h)
@@ -17,6 +18,18 @@ value-hi (node n l r) h x =
     let q : 2 ^ h ≤ 2 ^ h + x = omega arith in
     let d : 2 ^ h + x - 2 ^ h ≡ x = omega arith in
     rw (le-ltb (2 ^ h + x) (2 ^ h) q, d)
+
+-- v is the value at some place
+abbrev pub Taken : Event → ℕ → ℕ → Type 0
+Taken e h v = (x : ℕ) × (x < 2 ^ h) × (value e h x ≡ v)
+
+-- a value of a branch, with the base above it, is one of the tree
+module _ (n : ℕ) (l r : Event) (h v w : ℕ) (e : w ≡ n + v) where
+  pub taken_lo : Taken l h v → Taken (node n l r) (suc h) w
+  taken_lo a = (a.0, omega (arith, double h, a.1), value-lo (node n l r) h a.0 a.1 ∙ omega (arith, a.2))
+
+  pub taken_hi : Taken r h v → Taken (node n l r) (suc h) w
+  taken_hi a = (2 ^ h + a.0, omega (arith, double h, a.1), value-hi (node n l r) h a.0 ∙ omega (arith, a.2))
 
 -- what holds at the places of both halves holds at every place
 pub halves : (h : ℕ) (P : ℕ → Type 0) → ((x : ℕ) → x < 2 ^ h → P x) → ((x : ℕ) → x < 2 ^ h → P (2 ^ h + x)) → (x : ℕ) → x < 2 ^ suc h → P x
@@ -64,9 +77,9 @@ OverBoth h n l r g = ((x : ℕ) → x < 2 ^ h → value g (suc h) x ≡ n + valu
 
 twins-leaves : (l r : Event) → twins l r ≡ true → (h x : ℕ) → (value l h x ≡ low l) × (value r h x ≡ low l)
 twins-leaves (leaf a) (leaf b) e h x = (refl, sym (eqb-true a b e))
-twins-leaves (leaf a) (node n s t) e h x = absurd (clash e)
-twins-leaves (node n s t) (leaf b) e h x = absurd (clash e)
-twins-leaves (node n s t) (node k c d) e h x = absurd (clash e)
+twins-leaves (leaf a) (node n s t) e h x = absurd (false≢true e)
+twins-leaves (node n s t) (leaf b) e h x = absurd (false≢true e)
+twins-leaves (node n s t) (node k c d) e h x = absurd (false≢true e)
 
 module _ (n : ℕ) (l r : Event) (p : Normal l) (q : Normal r) (h : ℕ) where
   keeps_cond : (t : Bool) → twins l r ≡ t → OverBoth h n l r (cond t (leaf (n + low l)) (lifted n (min (low l) (low r)) l r))

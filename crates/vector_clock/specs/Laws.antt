@@ -1,11 +1,13 @@
 -- Names and counts are a sound kind, for any number of names from two up.
-use Rattle.std.specs.Prelude.{◌≡◌, ℕ, zero, suc, ◌-◌, ◌<◌, ◌≤◌, max, Bool, true, false, not, ◌&&◌, ◌||◌, ltb, ◌⊎◌, [], ◌∷◌, length, Some, None, ◌≢◌, nat_eq, nat_lt, refl}
+use Rattle.std.specs.Prelude.{◌≡◌, ℕ, zero, suc, ◌-◌, ◌<◌, ◌≤◌, max, Bool, true, false, not, ◌&&◌, ◌||◌, ltb, [], ◌∷◌, length, None, ◌≢◌, nat_eq, nat_lt, refl}
 use Rattle.std.proofs.Common.{sym, ap, ◌∙◌, inl, inr, ⊎_elim, arith}
+use Rattle.std.proofs.lemmas.Option.{none-some}
 use Rattle.std.proofs.lemmas.List.{length-replicate, get_or-replicate}
 use Rattle.std.proofs.lemmas.Bool.{both_ways, cases_Bool, cases_lt, cases_eq, eq-eqb, lt-ltb, le-ltb, ltb-true, ltb-false, and_parts, and_from, not-true, not_from_false}
-use Rattle.clock.specs.declared.causes.Cause.{Cause}
 use Rattle.clock.specs.declared.causes.Cause.TheVariants.{CannotSplit, PensOverlap, PenSpent, AtLimit}
 use Rattle.clock.specs.Answers.{due, first}
+use Rattle.clock.proofs.Tests.{and_or}
+use Rattle.clock.proofs.Dues.{due_some, first-none, first_some, last_some}
 use Rattle.clock.specs.Sound.{Sound, Forked, Evented, Overlap, Within, Opening}
 use Rattle.vector_clock.specs.declared.pens.Names.{Names}
 use Rattle.vector_clock.specs.declared.clocks.Counts.{Counts}
@@ -16,22 +18,6 @@ use Rattle.vector_clock.specs.Vectors.{vectors}
 use Rattle.vector_clock.specs.Numbers.{some_passes, none_passes, lowest_found}
 use Rattle.vector_clock.specs.Filled.{length_listed}
 use Rattle.vector_clock.specs.Indexed.{filler, past_counts, a_name, pen_at, made_at, larger-count, count_here, count_elsewhere}
-
--- which cause is due
-
-due_cause : (t : Bool) (x c : Cause) → due t x ≡ Some c → (t ≡ true) × (c ≡ x)
-due_cause true x c e = (refl, cc)
-due_cause false x c e = let z : ◌≡◌ {A = ℕ} 0 1 = cc in absurd (omega arith)
-
-first_cause : (s t : Bool) (x y c : Cause) → first (due s x ∷ due t y ∷ []) ≡ Some c → (c ≡ x) ⊎ (c ≡ y)
-first_cause true t x y c e = inl (cc)
-first_cause false true x y c e = inr (cc)
-first_cause false false x y c e = let z : ◌≡◌ {A = ℕ} 0 1 = cc in absurd (omega arith)
-
-none-due : (s t : Bool) (x y : Cause) → first (due s x ∷ due t y ∷ []) ≡ None → t ≡ false
-none-due true t x y e = let z : ◌≡◌ {A = ℕ} 0 1 = cc in absurd (omega arith)
-none-due false true x y e = let z : ◌≡◌ {A = ℕ} 0 1 = cc in absurd (omega arith)
-none-due false false x y e = refl
 
 -- fork
 
@@ -109,13 +95,9 @@ module _ {n : ℕ} (c d : Counts n) (made_d : nat_eq (length d.counts) n ≡ tru
 
 -- unite
 
-either_of : (b x y : Bool) → (b && (x || y)) ≡ ((b && x) || (b && y))
-either_of true x y = refl
-either_of false x y = refl
-
 module _ {n : ℕ} (p q : Names n) (made_p : nat_eq (length p.held) n ≡ true) (made_q : nat_eq (length q.held) n ≡ true) where
   unite_law : (l : ℕ) → (nat_lt l n && in_either p q l) ≡ (in_pen p l || in_pen q l)
-  unite_law l = either_of (nat_lt l n) (in_pen p l) (in_pen q l) ∙ sym (cc (made_at p l made_p, made_at q l made_q))
+  unite_law l = and_or (nat_lt l n) (in_either p q l) (in_pen p l) (in_pen q l) (λ _. refl) ∙ sym (cc (made_at p l made_p, made_at q l made_q))
 
   shared : none (in_both p q) n ≡ false → Overlap (vectors {n = n}) p q
   shared e =
@@ -166,14 +148,14 @@ module _ {n : ℕ} (two : 2 ≤ n) where
     no_pen_makes = λ l s. filler n l false;
     blank_knows = λ l s. le-ltb _ _ (omega (arith, filler {X = ℕ} n l 0));
     fork = λ p made _. fork_law p made;
-    fork_cause = λ p c _ e. (due_cause _ _ c e).1;
-    event = λ p c _ made e. let f = lowest_found (open_name p c) n (none-due (none (in_pen p) n) (none (open_name p c) n) PenSpent AtLimit e) in event_law p c made f.0 f.1 f.2 f.3;
-    event_cause = λ p c e _ _ d. ⊎_elim inl (λ a. inr (inr a)) (first_cause (none (in_pen p) n) (none (open_name p c) n) PenSpent AtLimit e d);
+    fork_cause = λ p c _ e. (due_some _ _ c e).1;
+    event = λ p c _ made e. let f = lowest_found (open_name p c) n (first-none (none (open_name p c) n) AtLimit [] (first-none (none (in_pen p) n) PenSpent _ e).1).0 in event_law p c made f.0 f.1 f.2 f.3;
+    event_cause = λ p c e _ _ d. ⊎_elim (λ a. inl a.1) (λ a. inr (inr (last_some _ _ e a.1))) (first_some (none (in_pen p) n) PenSpent _ e d);
     join = λ c d made_c made_d _. record { made = eq-eqb _ _ (length_listed n _); union = λ l s. ap (ltb s) (larger-count c d made_c made_d l) ∙ ltb_max s (count_of c l) (count_of d l) };
-    join_cause = λ c d e _ _ h. let z : ◌≡◌ {A = ℕ} 0 1 = cc in absurd (omega arith);
+    join_cause = λ c d e _ _ h. absurd (none-some e h);
     covers = λ c d _ made_d. (covers_within c d made_d, within_covers c d made_d);
     unite = λ p q made_p made_q _. record { made = eq-eqb _ _ (length_listed n _); union = λ l s. pen_at n (in_either p q) l ∙ unite_law p q made_p made_q l };
-    unite_cause = λ p q c _ _ e. inl (due_cause _ _ c e).1;
-    overlap = λ p q made_p made_q. (λ e. shared p q made_p made_q (not-true _ (due_cause _ _ _ e).0), λ o. ap (λ b. due (not b) PensOverlap) (denied p q made_p made_q o));
+    unite_cause = λ p q c _ _ e. inl (due_some _ _ c e).1;
+    overlap = λ p q made_p made_q. (λ e. shared p q made_p made_q (not-true _ (due_some _ _ _ e).0), λ o. ap (λ b. due (not b) PensOverlap) (denied p q made_p made_q o));
     opening = opening_law;
   }

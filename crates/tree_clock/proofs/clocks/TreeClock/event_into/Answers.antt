@@ -1,10 +1,10 @@
 use Rattle.std.proofs.Common.{Ok, Result, sym, ap, ◌∙◌, ap₂}
+use Rattle.std.proofs.lemmas.Bool.{false≢true}
 use Rattle.clock.specs.declared.faults.Fault.{Fault}
 use Rattle.clock.specs.Answers.{answered}
 use Rattle.tree_rules.specs.Fill.{fill}
 use Rattle.tree_rules.specs.Grow.{grow}
 use Rattle.tree_rules.specs.Ids.{is_off}
-use Rattle.tree_rules.proofs.Norms.{clash}
 use Rattle.tree_clock.specs.declared.clocks.TreeClock.{TreeClock}
 use Rattle.tree_clock.specs.Flat.{stored}
 use Rattle.tree_clock.specs.Growth.{past_limits}
@@ -26,4 +26,4 @@ returns c =
     let i = ap₂ fill c.id-2.ensures.id c.tree.ensures.tree in
     let f = c.front.ensures _ c.fill_into-n.ensures.stands ∙ i in
     let n = c.trim.ensures _ c.fill_into-n.ensures.stands ∙ ap stored i in
-    ap {B = Result TreeClock Fault} (λ s. Ok (record { stored = record { nodes = s } })) n ∙ event_fills c.args.pen.now c.args.self.now z c.requires.made.0 (λ q. clash (sym c.if-eq.false ∙ (one_event _ _ _ c.eq.ensures).1 (f ∙ q ∙ sym c.tree-2.ensures.tree)))
+    ap {B = Result TreeClock Fault} (λ s. Ok (record { stored = record { nodes = s } })) n ∙ event_fills c.args.pen.now c.args.self.now z c.requires.made.0 (λ q. false≢true (sym c.if-eq.false ∙ (one_event _ _ _ c.eq.ensures).1 (f ∙ q ∙ sym c.tree-2.ensures.tree)))

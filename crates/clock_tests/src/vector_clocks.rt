@@ -1,4 +1,4 @@
-use crate::refusal;
+use crate::refused_with;
 use clock::Fault;
 use std::test::Fail;
 use vector_clock::{Counts, Names};
@@ -27,8 +27,8 @@ fn counts_to_the_limit(rt: HostRuntime) -> Result<(), Fail> {
         clock = clock.event(&pen)?;
         assert!(rt; clock.count(name) == 65535);
     }
-    assert!(rt; refusal(clock.event(&pen)) == Some(16));
-    assert!(rt; refusal(clock.event(&Names::none())) == Some(14));
+    assert!(rt; refused_with(clock.event(&pen)) == Some(16));
+    assert!(rt; refused_with(clock.event(&Names::none())) == Some(14));
     Ok(())
 }
 

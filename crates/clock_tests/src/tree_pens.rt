@@ -1,4 +1,5 @@
-use crate::made::{FIRST_HALVES, MadePen, full_text, refused_with};
+use crate::made_trees::{FIRST_HALVES, MadePen, full_text};
+use crate::refused_with;
 use std::process::Abort;
 use std::test::*;
 

@@ -1,3 +1,4 @@
+use crate::DIGEST;
 use clock::Verdict;
 use history::Sizes;
 use payload::{Ticket, TicketError, Valve};
@@ -7,9 +8,6 @@ use season_log::{
 use std::fmt::Display;
 use std::process::Abort;
 use std::test::Fail;
-
-// A digest of 32 bytes, each a different one.
-const DIGEST: &str = "000102030405060708090a0b0c0d0e0f101112131415161718191a1b1c1d1eff";
 
 #[test]
 fn reading_calls_are_read(rt: HostRuntime) {

@@ -116,12 +116,6 @@ impl MadeClock {
     }
 }
 
-// The number of the cause with which an answer is refused: the expected values are
-// numbers. Its twin of the vectors' tests stands in another crate.
-pub fn refused_with<T: Drop>(answer: Result<T, Fault>) -> Option<u8> {
-    answer.err().map(|fault| u8::from(fault.cause))
-}
-
 // Fails with what a value prints, where that is not the text that was wanted.
 fn prints(heap: Global, value: &impl Display, wanted: &str) -> Result<(), Fail> {
     let printed = format!(in heap; "{value}")?;

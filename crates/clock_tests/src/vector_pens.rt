@@ -1,4 +1,4 @@
-use crate::refusal;
+use crate::refused_with;
 use std::test::Fail;
 use vector_clock::Names;
 
@@ -13,8 +13,8 @@ fn forks_and_unites(rt: HostRuntime) -> Result<(), Fail> {
         pen = lower;
         rest = rest.unite(&upper)?;
     }
-    assert!(rt; pen.size() == 1 && pen.has(0) && refusal(pen.fork()) == Some(11));
-    assert!(rt; rest.size() == 15 && refusal(rest.unite(&rest)) == Some(12));
+    assert!(rt; pen.size() == 1 && pen.has(0) && refused_with(pen.fork()) == Some(11));
+    assert!(rt; rest.size() == 15 && refused_with(rest.unite(&rest)) == Some(12));
     assert!(rt; rest.unite(&pen).is_ok());
     Ok(())
 }

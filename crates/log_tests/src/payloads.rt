@@ -1,12 +1,10 @@
+use crate::DIGEST;
 use payload::{Payload, Ticket, TicketError, Valve, ValveError};
 use std::alloc::Global;
 use std::test::Fail;
 
 // A part that fits no number of the machine.
 const LARGE: &str = "part:99999999999999999999";
-
-// A digest of 32 bytes, each a different one.
-const DIGEST: &str = "000102030405060708090a0b0c0d0e0f101112131415161718191a1b1c1d1eff";
 
 // Every kind of valve, in the words of a log, against every kind.
 #[test]
