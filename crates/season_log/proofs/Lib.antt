@@ -1,2 +1,4 @@
-mod Spelling
+pub mod Rows
+pub mod Unread
 pub mod Complete
+pub mod Before
