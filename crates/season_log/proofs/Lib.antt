@@ -1,4 +1,3 @@
 pub mod Rows
 pub mod Unread
 pub mod Complete
-pub mod Before
