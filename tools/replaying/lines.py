@@ -1,16 +1,11 @@
 """The lines of a log: their words, and the answer to each."""
 import sys
 
+from replaying.calls import CALLS
 from replaying.refusals import Mistake, Refusal
 from replaying.trees import Trees
 from replaying.vectors import Vectors
 from replaying.yard import Yard
-
-FORMS = {
-    "fork": "nn", "edit": "nnp", "judge": "nnn", "report": "nn", "pull": "nn", "settle": "nnnp",
-    "retire": "nn", "drop": "n", "seal": "", "show": "nn",
-}
-READERS = {"judge", "report", "show"}
 
 
 def number(word):
@@ -55,16 +50,13 @@ def line(state, words):
         return f"ok {berths} berths {len(payloads)} files"
     if "yard" not in state:
         raise Mistake
-    form = FORMS.get(name)
-    if form is None or len(form) != len(rest):
+    call = CALLS.get(name)
+    if call is None or len(call.words) != len(rest):
         raise Mistake
-    arguments = [number(word) if kind == "n" else state["read"](word) for kind, word in zip(form, rest)]
+    arguments = [state["read"](word) if kind == "p" else number(word) for kind, word in zip(call.words, rest)]
     yard = state["yard"]
-    if yard.sealed and name not in READERS:
+    if yard.sealed and not call.reads:
         raise Mistake
-    if name == "seal":
-        yard.sealed = True
-        return "ok"
     return getattr(yard, name)(*arguments)
 
 

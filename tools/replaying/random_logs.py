@@ -1,7 +1,7 @@
 """Random logs, mostly of calls that are accepted."""
 import random
 
-from replaying.lines import FORMS
+from replaying.calls import CALLS
 
 
 def random_log(seed, n):
@@ -21,12 +21,8 @@ def random_log(seed, n):
         return pick.randrange(f + (pick.random() < 0.02))
 
     yield f"open {kind} {read} {b} " + " ".join(payload() for _ in range(f))
-    names = list(FORMS)
-    weights = {"fork": 6, "edit": 12, "judge": 8, "report": 4, "pull": 6, "settle": 8, "retire": 2, "drop": 1, "show": 6, "seal": 0}
+    word = {"b": berth, "f": file, "p": payload}
+    weights = [call.weight for call in CALLS.values()]
     for _ in range(n - 1):
-        name = pick.choices(names, [weights[name] for name in names])[0]
-        words = [name]
-        for place, kind_of in enumerate(FORMS[name]):
-            is_file = kind_of == "n" and (name, place) in {("edit", 1), ("judge", 2), ("settle", 2), ("show", 1)}
-            words.append(payload() if kind_of == "p" else str(file() if is_file else berth()))
-        yield " ".join(words)
+        name = pick.choices(list(CALLS), weights)[0]
+        yield " ".join([name, *(str(word[kind]()) for kind in CALLS[name].words)])

@@ -122,6 +122,10 @@ class Yard:
         del self.pens[a]
         return "ok"
 
+    def seal(self):
+        self.sealed = True
+        return "ok"
+
     def show(self, a, f):
         self.judge(a, a, f)
         return self.kind.show_pen(self.pens[a]) + " " + self.kind.show_clock(self.copies[a][f][0])

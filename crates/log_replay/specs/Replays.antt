@@ -18,7 +18,7 @@ use Rattle.vector_clock.specs.declared.pens.Names.{Names}
 use Rattle.season_log.specs.declared.answers.Answer.{Answer}
 use Rattle.season_log.specs.declared.mistakes.Mistake.{Mistake}
 use Rattle.season_log.specs.declared.mistakes.Mistake.TheVariants.{UnknownCall, NoYard}
-use Rattle.season_log.specs.Forms.{call_form}
+use Rattle.season_log.specs.Rows.{IsCall, IsNoCall}
 use Rattle.season_log.specs.Words.{Word}
 use Rattle.log_replay.specs.declared.kinds.AnyYard.{AnyYard}
 use Rattle.log_replay.specs.Kinds.{AnyLine, AnyMistake, AnyOpenLine, AnyOpenMistake}
@@ -41,7 +41,7 @@ module _ (tree_text : List ℕ → List Word → Result (Answer TreePen TreeCloc
 abbrev pub Ends : Bool → Option AnyYard → Word → List Word → Mistake → Type 0
 Ends true y name ws m = AnyOpenMistake ws m
 Ends false (Some y) name ws m = AnyMistake y name ws m
-Ends false None name ws m = (call_form name.now ≡ None → m ≡ UnknownCall name) × (IsSome (call_form name.now) → m ≡ NoYard name)
+Ends false None name ws m = (IsNoCall name.now → m ≡ UnknownCall name) × (IsCall name.now → m ≡ NoYard name)
 
 abbrev pub WordsEnd : List Word → Option AnyYard → Mistake → Type 0
 WordsEnd [] y m = ⊥

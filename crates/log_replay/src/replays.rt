@@ -96,7 +96,7 @@ impl Replay {
             return self.open(arguments, out);
         }
         let Some(yard) = self.yard.take() else {
-            return Err(LineError::Mistake(without_yard(name, arguments)));
+            return Err(LineError::Mistake(without_yard(name)));
         };
         let (yard, done) = yard.answer(name, arguments, out);
         self.yard = Some(yard);

@@ -1,15 +1,33 @@
 -- What words spell is one call, and no mistake.
-use Rattle.std.proofs.Common.{◌≡◌, ℕ, ◌+◌, List, [], ◌∷◌, length, take, Some, None, Option, Ok, Err, Result, refl, sym, ap, subst, ◌∙◌, arith, IfOk, IfErr}
+use Rattle.std.proofs.Common.{◌≡◌, ℕ, ◌+◌, true, List, [], ◌∷◌, length, take, drop, Some, None, Option, Ok, Err, Result, refl, sym, ap, subst, ◌∙◌, arith, length-append, IfOk, IfErr}
+use Rattle.std.specs.List.{list_any}
 use Rattle.std.specs.Prelude.{slice_get}
-use Rattle.std.proofs.lemmas.Option.{slice_get_past}
+use Rattle.std.specs.Str.{bytes_eq}
+use Rattle.std.proofs.lemmas.List.{take-append-drop}
 use Rattle.season_log.specs.declared.calls.Call.{Call}
 use Rattle.season_log.specs.declared.mistakes.Mistake.{Mistake}
-use Rattle.season_log.specs.declared.mistakes.Mistake.TheVariants.{UnknownCall, WordCount, UnknownKind, UnknownPayload, NotNumber, NotPayload, NoYard, Sealed}
+use Rattle.season_log.specs.declared.mistakes.Mistake.TheVariants.{UnknownCall, WordCount, NotNumber, NotPayload}
 use Rattle.season_log.specs.declared.mistakes.PayloadError.{PayloadError}
-use Rattle.season_log.specs.Words.{Word, Numbers, number_mistake}
-use Rattle.season_log.specs.Forms.{Form, call_form, FormMistake}
-use Rattle.season_log.specs.Calls.{NumbersThen, Spells, IsExact, Complete, Unread, NameMistake}
-use Rattle.season_log.proofs.Spelling.{name_of, numbers_of, payload_of, count, has_form, same_call, Arguments, spelled}
+use Rattle.season_log.specs.Words.{Word, Numbers, IsNoPayload}
+use Rattle.season_log.specs.Rows.{Row, row, count, word_count, Shape, IsCall}
+use Rattle.season_log.specs.Calls.{Payload, Arguments, Spells, IsExact, Complete, FormMistake, Unread}
+use Rattle.season_log.proofs.Rows.{calls, is_named}
+use Rattle.season_log.proofs.Unread.{no_mistake, slice_get-drop}
+
+-- calls of one name have as many numbers and payloads
+same_shape : {P Q : Type 0} (c : Call P) (d : Call Q) → (row c).name ≡ (row d).name → (length (row c).numbers ≡ length (row d).numbers) × (count (row c).payload ≡ count (row d).payload)
+same_shape c d e = grind arith
+
+listed : {P : Type 0} (c : Call P) → list_any (λ (d : Shape). bytes_eq (row d).name (row c).name) calls ≡ true
+listed c = grind arith
+
+-- the row of a call tells it from all others
+same_call : {P : Type 0} (c d : Call P) → (row c).name ≡ (row d).name → (row c).numbers ≡ (row d).numbers → (row c).payload ≡ (row d).payload → c ≡ d
+same_call c d name numbers payload = grind arith
+
+-- some call with a blank for its payload has the name
+shape_of : {P : Type 0} (c : Call P) → IsCall (row c).name
+shape_of c = is_named (row c).name calls (listed c)
 
 -- the words stand for one list of numbers
 same_numbers : (ws : List Word) (ns ms : List ℕ) → Numbers ws ns → Numbers ws ms → ns ≡ ms
@@ -20,99 +38,75 @@ same_numbers (w ∷ ws) [] ms a b = absurd a
 same_numbers (w ∷ ws) (n ∷ ns) [] a b = absurd b
 same_numbers (w ∷ ws) (n ∷ ns) (m ∷ ms) a b = cc (a.0, b.0, same_numbers ws ns ms a.1 b.1)
 
-no_mistake : (ws : List Word) (ns : List ℕ) → Numbers ws ns → number_mistake (take (length ns) ws) ≡ None
-no_mistake [] [] a = refl
-no_mistake [] (n ∷ ns) a = absurd a
-no_mistake (w ∷ ws) [] a = absurd a
-no_mistake (w ∷ ws) (n ∷ ns) a = rw a.0 (no_mistake ws ns a.1)
+number_count : (ws : List Word) (ns : List ℕ) → Numbers ws ns → length ws ≡ length ns
+number_count [] [] a = refl
+number_count [] (n ∷ ns) a = absurd a
+number_count (w ∷ ws) [] a = absurd a
+number_count (w ∷ ws) (n ∷ ns) a = let e = number_count ws ns a.1 in omega arith
 
-as_many : (ws : List Word) (ns : List ℕ) → Numbers ws ns → length ws ≡ length ns
-as_many [] [] a = refl
-as_many [] (n ∷ ns) a = absurd a
-as_many (w ∷ ws) [] a = absurd a
-as_many (w ∷ ws) (n ∷ ns) a = let e = as_many ws ns a.1 in omega arith
+parts : (n : ℕ) (ws : List Word) → length ws ≡ length (take n ws) + length (drop n ws)
+parts n ws = ap length (sym (take-append-drop n ws)) ∙ length-append (take n ws) (drop n ws)
 
 module _ {P E : Type 0} (g : List ℕ → Result P E → Type 0) where
-  -- what numbers and a payload say of the words
-  record Then (ws : List Word) (ns : List ℕ) (p : P) : Type 0 where
-    word : Word
-    at : slice_get ws (length ns) ≡ Some word
-    is : g word.now (Ok p)
-    many : length ws ≡ length ns + 1
-    none : number_mistake (take (length ns) ws) ≡ None
+  payload_count : (ws : List Word) (p : Option P) → Payload g ws p → length ws ≡ count p
+  payload_count [] None a = refl
+  payload_count [] (Some p) a = absurd a
+  payload_count (w ∷ []) None a = absurd a
+  payload_count (w ∷ []) (Some p) a = refl
+  payload_count (w ∷ v ∷ ws) p a = absurd a
 
-  then_says : (ws : List Word) (ns : List ℕ) (p : P) → NumbersThen g ws ns p → Then ws ns p
-  then_says [] [] p a = absurd a
-  then_says [] (n ∷ ns) p a = absurd a
-  then_says (w ∷ []) [] p a = record { word = w; at = refl; is = a; many = refl; none = refl }
-  then_says (w ∷ v ∷ ws) [] p a = absurd a
-  then_says (w ∷ []) (n ∷ []) p a = absurd a.1
-  then_says (w ∷ []) (n ∷ k ∷ ns) p a = absurd a.1
-  then_says (w ∷ v ∷ ws) (n ∷ ns) p a =
-      let t = then_says (v ∷ ws) ns p a.1 in
-      record { word = t.word; at = t.at; is = t.is; many = omega arith; none = rw a.0 t.none }
-
-  same_then : (ws : List Word) (ns ms : List ℕ) (p q : P) → NumbersThen g ws ns p → NumbersThen g ws ms q → ns ≡ ms
-  same_then [] [] ms p q a b = absurd a
-  same_then [] (n ∷ ns) ms p q a b = absurd a
-  same_then (w ∷ []) [] [] p q a b = refl
-  same_then (w ∷ []) [] (m ∷ []) p q a b = absurd b.1
-  same_then (w ∷ []) [] (m ∷ k ∷ ms) p q a b = absurd b.1
-  same_then (w ∷ v ∷ ws) [] ms p q a b = absurd a
-  same_then (w ∷ []) (n ∷ []) ms p q a b = absurd a.1
-  same_then (w ∷ []) (n ∷ k ∷ ns) ms p q a b = absurd a.1
-  same_then (w ∷ v ∷ ws) (n ∷ ns) [] p q a b = absurd b
-  same_then (w ∷ v ∷ ws) (n ∷ ns) (m ∷ ms) p q a b = cc (a.0, b.0, same_then (v ∷ ws) ns ms p q a.1 b.1)
+  argument_count : (ws : List Word) (r : Row P) → Arguments g ws r.numbers r.payload → length ws ≡ word_count r
+  argument_count ws r a =
+      let n = number_count (take (length r.numbers) ws) r.numbers a.0 in
+      let p = payload_count (drop (length r.numbers) ws) r.payload a.1 in
+      let e = parts (length r.numbers) ws in
+      omega arith
 
   module _ (exact : IsExact g) where
-    one_payload : (ws : List Word) (ns : List ℕ) (p q : P) → Then ws ns p → Then ws ns q → p ≡ q
-    one_payload ws ns p q s t = let e : s.word ≡ t.word = cc (s.at, t.at) in cc (exact t.word.now (Ok p) (Ok q) (subst (λ (w : Word). g w.now (Ok p)) e s.is) t.is)
+    one_payload : (ws : List Word) (p q : Option P) → Payload g ws p → Payload g ws q → p ≡ q
+    one_payload [] None None a b = refl
+    one_payload [] None (Some q) a b = absurd b
+    one_payload [] (Some p) q a b = absurd a
+    one_payload (w ∷ []) None q a b = absurd a
+    one_payload (w ∷ []) (Some p) None a b = absurd b
+    one_payload (w ∷ []) (Some p) (Some q) a b = cc (exact w.now (Ok p) (Ok q) a b)
+    one_payload (w ∷ v ∷ ws) p q a b = absurd a
 
-    same_arguments : (ws : List Word) (ns ms : List ℕ) (p q : Option P) → count p ≡ count q → Arguments g ws ns p → Arguments g ws ms q → (ns ≡ ms) × (p ≡ q)
-    same_arguments ws ns ms None None e a b = (same_numbers ws ns ms a b, refl)
-    same_arguments ws ns ms None (Some q) e a b = absurd (omega arith)
-    same_arguments ws ns ms (Some p) None e a b = absurd (omega arith)
-    same_arguments ws ns ms (Some p) (Some q) e a b =
-        let n = same_then ws ns ms p q a b in
-        (n, ap Some (one_payload ws ns p q (then_says ws ns p a) (then_says ws ns q (subst (λ (k : List ℕ). NumbersThen g ws k q) (sym n) b))))
-
-    pub one_call : (name : List ℕ) (ws : List Word) (c d : Call P) → Spells g name ws c → Spells g name ws d → c ≡ d
+    one_call : (name : List ℕ) (ws : List Word) (c d : Call P) → Spells g name ws c → Spells g name ws d → c ≡ d
     one_call name ws c d a b =
-        let s = spelled g name ws c a in
-        let t = spelled g name ws d b in
-        let n : name_of c ≡ name_of d = sym s.0 ∙ t.0 in
-        let f = has_form c in
-        let h = has_form d in
-        let forms : f.form ≡ h.form = cc (f.is, h.is, n) in
-        let counts : count (payload_of c) ≡ count (payload_of d) = cc (forms, f.payloads, h.payloads) in
-        let same = same_arguments ws (numbers_of c) (numbers_of d) (payload_of c) (payload_of d) counts s.1 t.1 in
-        same_call c d n same.0 same.1
+        let n : (row c).name ≡ (row d).name = sym a.0 ∙ b.0 in
+        let as_many = sym (same_shape c d n).0 in
+        let ns = subst (λ k. Numbers (take k ws) (row d).numbers) as_many b.1.0 in
+        let p = subst (λ k. Payload g (drop k ws) (row d).payload) as_many b.1.1 in
+        same_call c d n (same_numbers _ _ _ a.1.0 ns) (one_payload _ _ _ a.1.1 p)
 
-    module _ (converts : E → PayloadError → Type 0) where
-      clean : (f : Form) (ws : List Word) (ns : List ℕ) (p : Option P) (m : Mistake) → f.numbers ≡ length ns → f.payloads ≡ count p → Arguments g ws ns p → FormMistake g converts f ws m → ⊥
-      clean f ws ns None (WordCount text) n k a w = let e = as_many ws ns a in w.1 (omega arith)
-      clean f ws ns (Some p) (WordCount text) n k a w = let t = then_says ws ns p a in w.1 (omega arith)
-      clean f ws ns None (NotNumber v e) n k a w = let z = no_mistake ws ns a in cc (rw n at w.1, z)
-      clean f ws ns (Some p) (NotNumber v e) n k a w = let t = then_says ws ns p a in cc (rw n at w.1, t.none)
-      clean f ws ns None (NotPayload v e) n k a w = let e = as_many ws ns a in cc (slice_get_past ws f.numbers (omega arith), w.2)
-      clean f ws ns (Some p) (NotPayload v e) n k a w =
-          let t = then_says ws ns p a in
-          let same : v ≡ t.word = cc (rw n at w.2, t.at) in
-          let r : Err w.3.0 ≡ Ok p = exact t.word.now (Err w.3.0) (Ok p) (subst (λ (x : Word). g x.now (Err w.3.0)) same w.3.1.0) t.is in
-          cc r
-      clean f ws ns p (UnknownCall v) n k a w = w
-      clean f ws ns p (UnknownKind v) n k a w = w
-      clean f ws ns p (UnknownPayload v) n k a w = w
-      clean f ws ns p (NoYard v) n k a w = w
-      clean f ws ns p (Sealed v) n k a w = w
+    module _ (conv : E → PayloadError → Type 0) where
+      is_payload : (ws : List Word) (p : Option P) (v : Word) (error : PayloadError) → Payload g ws p → slice_get ws 0 ≡ Some v → IsNoPayload g conv v error → ⊥
+      is_payload [] p v error a at e = cc at
+      is_payload (w ∷ []) None v error a at e = a
+      is_payload (w ∷ []) (Some p) v error a at e =
+          let same : v ≡ w = cc at in
+          cc (exact w.now (Err e.0) (Ok p) (subst (λ (x : Word). g x.now (Err e.0)) same e.1.0) a)
+      is_payload (w ∷ u ∷ ws) p v error a at e = a
 
-      pub no_mistake_in_call : (name : Word) (ws : List Word) (c : Call P) (m : Mistake) → Spells g name.now ws c → Unread g converts name ws m → ⊥
-      no_mistake_in_call name ws c m a w =
-          let s = spelled g name.now ws c a in
-          let f = has_form c in
-          let is : call_form name.now ≡ Some f.form = ap call_form s.0 ∙ f.is in
-          clean f.form ws (numbers_of c) (payload_of c) m f.numbers f.payloads s.1 (subst (λ (o : Option Form). NameMistake (λ h. FormMistake g converts h ws) o name m) is w)
+      clean : (ws : List Word) (c : Call P) (d : Shape) (m : Mistake) → (row c).name ≡ (row d).name → Arguments g ws (row c).numbers (row c).payload → FormMistake g conv (row d) ws m → ⊥
+      clean ws c d (WordCount text) n a w =
+          let s = same_shape c d n in
+          let e = argument_count ws (row c) a in
+          w.1 (omega arith)
+      clean ws c d (NotNumber v e) n a w =
+          let s = same_shape c d n in
+          cc (no_mistake (take (length (row c).numbers) ws) (row c).numbers a.0, w.1, s.0)
+      clean ws c d (NotPayload v e) n a w =
+          let s = same_shape c d n in
+          let at : slice_get ws (length (row c).numbers) ≡ Some v = cc (w.2, s.0) in
+          is_payload (drop (length (row c).numbers) ws) (row c).payload v e a.1 (sym (slice_get-drop ws (length (row c).numbers)) ∙ at) w.3
+      clean ws c d _ n a w = w
 
-  pub complete : (converts : E → PayloadError → Type 0) (name : Word) (ws : List Word) (r : Result (Call P) Mistake) → IfOk r (Spells g name.now ws) → IfErr r (Unread g converts name ws) → Complete g name.now ws r
-  complete converts name ws (Ok d) read refused exact c s = ap Ok (one_call exact name.now ws d c read s)
-  complete converts name ws (Err m) read refused exact c s = absurd (no_mistake_in_call exact converts name ws c m s refused)
+      no_mistake_in_call : (name : Word) (ws : List Word) (c : Call P) (m : Mistake) → Spells g name.now ws c → Unread g conv name ws m → ⊥
+      no_mistake_in_call name ws c (UnknownCall v) a w = let d = shape_of c in w.1 d.0 (d.1 ∙ sym a.0)
+      no_mistake_in_call name ws c m a w = clean ws c w.0 m (sym a.0 ∙ w.1) a.1 w.2
+
+  pub complete : (conv : E → PayloadError → Type 0) (name : Word) (ws : List Word) (r : Result (Call P) Mistake) → IfOk r (Spells g name.now ws) → IfErr r (Unread g conv name ws) → Complete g name.now ws r
+  complete conv name ws (Ok d) read refused exact c s = ap Ok (one_call exact name.now ws d c read s)
+  complete conv name ws (Err m) read refused exact c s = absurd (no_mistake_in_call exact conv name ws c m s refused)

@@ -1,2 +1,3 @@
-mod Spelling
+pub mod Rows
+pub mod Unread
 pub mod Complete

@@ -1,6 +1,6 @@
 pub mod Words
 pub mod Openings
-pub mod Forms
+pub mod Rows
 pub mod Calls
 pub mod Answers
 pub mod Mistakes

@@ -13,13 +13,17 @@
 
 mod answers;
 mod calls;
+mod forms;
 mod mistakes;
 mod no_yard;
 mod numbers;
 mod openings;
+mod reading;
 
 pub use answers::{Answer, Buffer};
-pub use calls::{Call, Reading, Writing, read_payload};
+pub use calls::{Call, Reading, Writing};
+pub use forms::{FORMS, Form};
 pub use mistakes::{Mistake, PayloadError};
 pub use no_yard::without_yard;
 pub use openings::{Kind, Opening, PayloadKind};
+pub use reading::read_payload;

@@ -1,0 +1,49 @@
+-- A call of each name; and a form that is found by its name is that of a call of this name.
+use Rattle.std.proofs.Common.{◌≡◌, ℕ, true, false, cond, ◌||◌, List, [], ◌∷◌, Some, Option, IfSome, find, refl, sym, subst}
+use Rattle.std.specs.List.{list_any}
+use Rattle.std.specs.Str.{bytes_eq}
+use Rattle.std.proofs.lemmas.Slice.Eq.{bytes_eq-Decides}
+use Rattle.season_log.specs.declared.calls.Call.TheVariants.{Reads, Writes, Seal}
+use Rattle.season_log.specs.declared.calls.Reading.TheVariants.{Judge, Report, Show}
+use Rattle.season_log.specs.declared.calls.Writing.TheVariants.{Fork, Edit, Pull, Settle, Retire, Drop}
+use Rattle.season_log.specs.declared.forms.Form.{Form}
+use Rattle.season_log.specs.Rows.{row, Shape, IsCall, IsForm, AreForms}
+
+-- in the order of the table
+abbrev pub calls : List Shape
+calls =
+    Writes (Fork 0 0)
+    ∷ Writes (Edit 0 0 tt)
+    ∷ Reads (Judge 0 0 0)
+    ∷ Reads (Report 0 0)
+    ∷ Writes (Pull 0 0)
+    ∷ Writes (Settle 0 0 0 tt)
+    ∷ Writes (Retire 0 0)
+    ∷ Writes (Drop 0)
+    ∷ Seal
+    ∷ Reads (Show 0 0)
+    ∷ []
+
+pub is_named : (name : List ℕ) (cs : List Shape) → list_any (λ c. bytes_eq (row c).name name) cs ≡ true → IsCall name
+is_named name [] e = absurd (cc e)
+is_named name (c ∷ cs) e =
+    elim (bytes_eq (row c).name name) as (λ b. (b ≡ true → (row c).name ≡ name) → (b || list_any (λ c. bytes_eq (row c).name name) cs) ≡ true → IsCall name) [
+      | true ↦ λ same any. (c, same refl)
+      | false ↦ λ same any. is_named name cs any
+    ] (bytes_eq-Decides (row c).name name).0 e
+
+abbrev Found : List ℕ → Option Form → Type 0
+Found name r = IfSome r (λ f. (c : Shape) × (f.name.now ≡ name) × IsForm c f)
+
+first : (name : List ℕ) (cs : List Shape) (fs : List Form) → AreForms cs fs → Found name (find (λ f. bytes_eq f.name.now name) fs)
+first name [] [] each = tt
+first name [] (f ∷ fs) each = absurd each
+first name (c ∷ cs) [] each = absurd each
+first name (c ∷ cs) (f ∷ fs) each =
+    elim (bytes_eq f.name.now name) as (λ b. (b ≡ true → f.name.now ≡ name) → Found name (cond b (Some f) (find (λ f. bytes_eq f.name.now name) fs))) [
+      | true ↦ λ same. (c, same refl, each.0)
+      | false ↦ λ same. first name cs fs each.1
+    ] (bytes_eq-Decides f.name.now name).0
+
+pub found : (name : List ℕ) (fs : List Form) (r : Option Form) → r ≡ find (λ f. bytes_eq f.name.now name) fs → (cs : List Shape) → AreForms cs fs → Found name r
+found name fs r e cs each = subst (Found name) (sym e) (first name cs fs each)

@@ -1,0 +1,6 @@
+use Rattle.std.proofs.Common.{rules}
+use Rattle.season_log.proofs.Rows.{calls}
+use Rattle.season_log.proofs.forms.form_of.Goals as goal
+
+pub returns-clause-found : goal.returns-clause-found
+returns-clause-found c = c.form_among.ensures.known calls (search rules)
