@@ -1,10 +1,13 @@
 -- The yard of a log at each clock kind, and what a line makes of it.
 --
--- AnyLine y name ws z p      `KindLine` of KindYards, at the clock kind of the yard y, which the yard z has too
--- AnyMistake y name ws m     `KindMistake` of KindYards, at the clock kind of the yard y
+-- AnyMistake y name ws m       `KindMistake` of KindYards, at the clock kind of the yard y
+-- AnyLine y name ws z p        `KindLine` of KindYards, at the clock kind of the yard y, which z
+--                              has too
 -- AnyOpens k l b words ws y p  `KindOpens` of KindYards, at the clock kind k
--- AnyOpenLine ws y p         the words after `open` ask for these kinds, this many berths and these opening payloads, and that is opened
--- AnyOpenMistake ws m        m says what is wrong with them
+-- AnyOpenLine ws y p           the words after `open` ask for these kinds, this many berths and
+--                              these
+--                              opening payloads, and that is opened
+-- AnyOpenMistake ws m          m says what is wrong with them
 use Rattle.std.specs.Prelude.{◌≡◌, ◌⊎◌, ℕ, List, Option}
 use Rattle.std.specs.Option.{option_map}
 use Rattle.tree_clock.specs.declared.clocks.TreeClock.{TreeClock}
@@ -36,9 +39,14 @@ AnyLine (TreeYard y) name ws (TreeYard z) p = KindLine tree_kind tree_text y nam
 AnyLine (VectorYard y) name ws (VectorYard z) p = KindLine vectors vector_text y name ws z p
 AnyLine y name ws z p = ⊥
 
-abbrev pub AnyOpens : Kind → PayloadKind → ℕ → List Word → List Word → Option AnyYard → Prints → Type 0
-AnyOpens Tree k b words ws o p = (y : Option (KindYard TreeClock TreePen)) × (o ≡ option_map TreeYard y) × KindOpens tree_kind tree_text k b words ws y p
-AnyOpens Vector k b words ws o p = (y : Option (KindYard (Counts 16) (Names 16))) × (o ≡ option_map VectorYard y) × KindOpens vectors vector_text k b words ws y p
+abbrev pub AnyOpens :
+    Kind → PayloadKind → ℕ → List Word → List Word → Option AnyYard → Prints → Type 0
+AnyOpens Tree k b words ws o p =
+    (y : Option (KindYard TreeClock TreePen)) × (o ≡ option_map TreeYard y) ×
+    KindOpens tree_kind tree_text k b words ws y p
+AnyOpens Vector k b words ws o p =
+    (y : Option (KindYard (Counts 16) (Names 16))) × (o ≡ option_map VectorYard y) ×
+    KindOpens vectors vector_text k b words ws y p
 
 pub record AnyOpenLine (ws : List Word) (o : Option AnyYard) (p : Prints) : Type 0 where
   pub asked : Opening
@@ -46,4 +54,6 @@ pub record AnyOpenLine (ws : List Word) (o : Option AnyYard) (p : Prints) : Type
   pub opens : AnyOpens asked.kind asked.payload asked.berths asked.words.now ws o p
 
 abbrev pub AnyOpenMistake : List Word → Mistake → Type 0
-AnyOpenMistake ws m = OpeningMistake ws m ⊎ ((asked : Opening) × Opens ws asked × NoPayloadOf asked.payload asked.words.now m)
+AnyOpenMistake ws m =
+    OpeningMistake ws m ⊎
+    ((asked : Opening) × Opens ws asked × NoPayloadOf asked.payload asked.words.now m)

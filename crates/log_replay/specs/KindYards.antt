@@ -4,7 +4,8 @@
 -- told_valve, told_ticket     how an error of reading is told
 -- KindMistake y name ws m     `LineMistake` of Lines, at the payload kind of the yard y
 -- NoPayloadOf k ws m          `NoPayload` of Openings, at the payload kind k
--- KindLine y name ws z p      `Line` of Lines, at the payload kind of the yard y, which the yard z has too
+-- KindLine y name ws z p      `Line` of Lines, at the payload kind of the yard y, which the yard z
+--                             has too
 -- KindOpens k b words ws y p  `OpenLine` of Openings, at the payload kind k
 --
 -- m is the meaning of the clock kind, and text says what a line prints at it.
@@ -54,10 +55,17 @@ module _ {Pen C : Type 0} where
 
   module _ (m : Meaning Pen C) (text : LineText Pen C) where
     abbrev pub KindLine : KindYard C Pen → List ℕ → List Word → KindYard C Pen → Prints → Type 0
-    KindLine (ValveYard y) name ws (ValveYard z) p = Line valve_reads m same_valve text y name ws z p
-    KindLine (TicketYard y) name ws (TicketYard z) p = Line ticket_reads m same_ticket text y name ws z p
+    KindLine (ValveYard y) name ws (ValveYard z) p =
+        Line valve_reads m same_valve text y name ws z p
+    KindLine (TicketYard y) name ws (TicketYard z) p =
+        Line ticket_reads m same_ticket text y name ws z p
     KindLine y name ws z p = ⊥
 
-    abbrev pub KindOpens : PayloadKind → ℕ → List Word → List Word → Option (KindYard C Pen) → Prints → Type 0
-    KindOpens Valves b words ws o p = (y : Option (Yard C Valve Pen)) × (o ≡ option_map ValveYard y) × OpenLine valve_reads m text b words ws y p
-    KindOpens Tickets b words ws o p = (y : Option (Yard C Ticket Pen)) × (o ≡ option_map TicketYard y) × OpenLine ticket_reads m text b words ws y p
+    abbrev pub KindOpens :
+        PayloadKind → ℕ → List Word → List Word → Option (KindYard C Pen) → Prints → Type 0
+    KindOpens Valves b words ws o p =
+        (y : Option (Yard C Valve Pen)) × (o ≡ option_map ValveYard y) ×
+        OpenLine valve_reads m text b words ws y p
+    KindOpens Tickets b words ws o p =
+        (y : Option (Yard C Ticket Pen)) × (o ≡ option_map TicketYard y) ×
+        OpenLine ticket_reads m text b words ws y p

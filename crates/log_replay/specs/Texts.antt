@@ -2,9 +2,12 @@
 --
 -- word_text w              a word, after a space
 -- words_text name ws       the words of the line, each parted from the one before by a space
--- LineText                 what is printed of a line with these words that is answered so, if that is known
--- answered_text q c r      what an answer or a refusal prints; q and c are what a pen and a clock print
--- line_text q c            the words, a colon and a space, what the answer prints, and the end of the line
+-- LineText                 what is printed of a line with these words that is answered so, if that
+--                          is known
+-- answered_text q c r      what an answer or a refusal prints; q and c are what a pen and a clock
+--                          print
+-- line_text q c            the words, a colon and a space, what the answer prints, and the end of
+--                          the line
 -- tree_text, vector_text   the same at each clock kind
 use Rattle.std.specs.Prelude.{codes, ℕ, List, ◌++◌, Some, Option, Ok, Err, Result}
 use Rattle.std.specs.Fmt.{◌++?◌, with_newline}
@@ -36,7 +39,8 @@ module _ {Pen C : Type 0} (q : Pen → Option (List ℕ)) (c : C → Option (Lis
   answered_text (Err e) = Some (fault_text e)
 
   abbrev pub line_text : LineText Pen C
-  line_text name ws r = Some (words_text name ws) ++? with_newline (Some (codes ": ") ++? answered_text r)
+  line_text name ws r =
+      Some (words_text name ws) ++? with_newline (Some (codes ": ") ++? answered_text r)
 
 abbrev pub tree_text : LineText TreePen TreeClock
 tree_text = line_text pen_text clock_text

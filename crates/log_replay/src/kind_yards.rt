@@ -40,7 +40,8 @@ where
             IfOk result (λ x. (p : Prints)
             × KindOpens C.meaning text kind berths words arguments.now x.0 p
             × OnOk x.1 (Printed p (W.contents out.old) (W.contents out.new))) }
-        ensures mistake { IfErr result (Unopened (NoPayloadOf asked.now.payload asked.now.words.now)) }
+        ensures mistake { let kind = asked.now.payload in
+            IfErr result (Unopened (NoPayloadOf kind asked.now.words.now)) }
         ensures kept { OnErr result (W.contents out.new ≡ W.contents out.old) }
     {
         match asked.payload {
