@@ -25,7 +25,8 @@ use Rattle.log_replay.specs.Texts.{LineText}
 
 module _ {Pen C P E : Type 0} (g : List ℕ → Result P E → Type 0) where
   pub record Line (m : Meaning Pen C) (alike : P → P → Bool) (text : LineText Pen C)
-      (y : Yard C P Pen) (name : List ℕ) (ws : List Word) (z : Yard C P Pen) (p : Prints) : Type 0 where
+      (y : Yard C P Pen) (name : List ℕ) (ws : List Word) (z : Yard C P Pen) (p : Prints) :
+      Type 0 where
     pub call : Call P
     pub answer : Result (Answer Pen C) Fault
     pub spells : Spells g name ws call
