@@ -1,7 +1,9 @@
 pub mod Outcomes
+pub mod Texts
 pub mod Lines
 pub mod Openings
-pub mod Kinds
+pub mod KindYards
+pub mod AnyYards
 pub mod Words
 pub mod Replays
 pub mod Logs

@@ -1,16 +1,14 @@
 -- A line of a log that speaks to a yard: its call, what the yard answers, and what is printed.
 --
--- words_text name ws       the words of the line, each parted from the one before by a space
--- answered_text r          what an answer or a refusal prints, if that is known
--- line_text name ws r      the words, a colon and a space, what the answer prints, and the end of the line
--- Line y name ws z p       the words spell a call that the yard y takes; it leaves the yard z, and prints the line with its answer
--- NotTaken y name ws m     the words spell a call that the yard y does not take, which is what m says
+-- Line y name ws z p       the words spell a call that the yard y takes; it leaves the yard z, and
+--                          prints the line with its answer
+-- NotTaken y name ws m     the words spell a call that the yard y does not take, which is what m
+--                          says
 -- LineMistake y name ws m  m says that, or what is wrong with the words
 --
--- f, q and c say what refusals, pens and clocks print; g is the payload kind's `from_str_gives`, conv the `from_gives` of its errors.
-use Rattle.std.specs.Prelude.{◌≡◌, ◌⊎◌, Bool, true, false, codes, ℕ, List, ◌++◌, Some, Option, Ok, Err, Result}
-use Rattle.std.specs.Fmt.{◌++?◌, with_newline}
-use Rattle.std.specs.List.{flat_map}
+-- text says what a line prints; g is the payload kind's `from_str_gives`, conv the `from_gives` of
+-- its errors.
+use Rattle.std.specs.Prelude.{◌≡◌, ◌⊎◌, Bool, true, false, ℕ, List, Some, Result}
 use Rattle.clock.specs.declared.faults.Fault.{Fault}
 use Rattle.clock.specs.Meaning.{Meaning}
 use Rattle.season_log.specs.declared.answers.Answer.{Answer}
@@ -18,29 +16,17 @@ use Rattle.season_log.specs.declared.calls.Call.{Call}
 use Rattle.season_log.specs.declared.mistakes.Mistake.{Mistake}
 use Rattle.season_log.specs.declared.mistakes.Mistake.TheVariants.{Sealed}
 use Rattle.season_log.specs.declared.mistakes.PayloadError.{PayloadError}
-use Rattle.season_log.specs.Answers.{answer_text}
 use Rattle.season_log.specs.Words.{Word}
 use Rattle.season_log.specs.Calls.{Spells, Unread}
 use Rattle.season_replay.specs.declared.yards.Yard.{Yard}
 use Rattle.season_replay.specs.Yards.{takes, Carried}
 use Rattle.log_replay.specs.Outcomes.{Prints}
-
-abbrev pub word_text : Word → List ℕ
-word_text w = codes " " ++ w.now
-
-abbrev pub words_text : List ℕ → List Word → List ℕ
-words_text name ws = name ++ flat_map word_text ws
-
-module _ {Pen C : Type 0} (f : Fault → Option (List ℕ)) (q : Pen → Option (List ℕ)) (c : C → Option (List ℕ)) where
-  abbrev pub answered_text : Result (Answer Pen C) Fault → Option (List ℕ)
-  answered_text (Ok a) = answer_text q c a
-  answered_text (Err e) = f e
-
-  abbrev pub line_text : List ℕ → List Word → Result (Answer Pen C) Fault → Option (List ℕ)
-  line_text name ws r = Some (words_text name ws) ++? with_newline (Some (codes ": ") ++? answered_text r)
+use Rattle.log_replay.specs.Texts.{LineText}
 
 module _ {Pen C P E : Type 0} (g : List ℕ → Result P E → Type 0) where
-  pub record Line (m : Meaning Pen C) (alike : P → P → Bool) (text : List ℕ → List Word → Result (Answer Pen C) Fault → Option (List ℕ)) (y : Yard C P Pen) (name : List ℕ) (ws : List Word) (z : Yard C P Pen) (p : Prints) : Type 0 where
+  pub record Line (m : Meaning Pen C) (alike : P → P → Bool) (text : LineText Pen C)
+      (y : Yard C P Pen) (name : List ℕ) (ws : List Word) (z : Yard C P Pen) (p : Prints) :
+      Type 0 where
     pub call : Call P
     pub answer : Result (Answer Pen C) Fault
     pub spells : Spells g name ws call
@@ -54,5 +40,6 @@ module _ {Pen C P E : Type 0} (g : List ℕ → Result P E → Type 0) where
     pub taken : takes y call ≡ false
     pub is : m ≡ Sealed name
 
-  abbrev pub LineMistake : (E → PayloadError → Type 0) → Yard C P Pen → Word → List Word → Mistake → Type 0
+  abbrev pub LineMistake :
+      (E → PayloadError → Type 0) → Yard C P Pen → Word → List Word → Mistake → Type 0
   LineMistake conv y name ws m = Unread g conv name ws m ⊎ NotTaken y name ws m

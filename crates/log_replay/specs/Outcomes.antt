@@ -1,10 +1,12 @@
--- What comes of a line of a log: it is carried out and answered; or it is no call; or memory runs out before it; or it is carried out
--- and its answer cannot be written whole.
+-- What comes of a line of a log: it is carried out and answered; or it is no call; or memory runs
+-- out before it; or it is carried out and its answer cannot be written whole.
 --
 -- Writes text old new    the text, where it is known, is appended to what is known of the output
 -- Prints                 what a line prints: nothing, or a text, which may not be known
--- Printed p old new      what is printed is appended to what is known of the output; with nothing to print, nothing is written
--- Comes r old new        what comes of a line that ends in r, which found `old` of the output and left `new`:
+-- Printed p old new      what is printed is appended to what is known of the output; with nothing
+--                        to print, nothing is written
+-- Comes r old new        what comes of a line that ends in r, which found `old` of the output and
+--                        left `new`:
 --   Ok                   it leaves what `leaves` says and prints p, and that is written
 --   Mistake m            m tells what is wrong, the yard stays, and nothing is written
 --   OutOfMemory          the yard stays, and nothing is written

@@ -1,6 +1,8 @@
 -- The words of a line.
 --
--- WordsThen text ws rest   the words stand in the text one after the other, with white space before each and none in it; rest is left, and does not go on with the last of them
+-- WordsThen text ws rest   the words stand in the text one after the other, with white space before
+--                          each and none in it; rest is left, and does not go on with the last of
+--                          them
 -- IsWords text ws          these are all the words of the text
 -- begins_remark w          the word begins with #
 use Rattle.std.specs.Prelude.{◌≡◌, ◌<◌, ◌==◌, Bool, false, ℕ, List, [], ◌∷◌, ◌++◌, length}
@@ -11,7 +13,10 @@ use Rattle.season_log.specs.Words.{Word}
 abbrev pub WordsThen : List ℕ → List Word → List ℕ → Type 0
 WordsThen text [] rest = text ≡ rest
 WordsThen text (w ∷ ws) rest =
-    (gap : List ℕ) × (more : List ℕ) × (text ≡ gap ++ (w.now ++ more)) × (0 < length w.now) × NoCharPasses is_not_whitespace gap × NoCharPasses is_whitespace w.now × ((after : List ℕ) × EmptyOrStartsWithPassing is_whitespace more after) × WordsThen more ws rest
+    (gap : List ℕ) × (more : List ℕ) × (text ≡ gap ++ (w.now ++ more)) × (0 < length w.now) ×
+    NoCharPasses is_not_whitespace gap × NoCharPasses is_whitespace w.now ×
+    ((after : List ℕ) × EmptyOrStartsWithPassing is_whitespace more after) ×
+    WordsThen more ws rest
 
 abbrev pub IsWords : List ℕ → List Word → Type 0
 IsWords text ws = (rest : List ℕ) × WordsThen text ws rest × NoCharPasses is_not_whitespace rest

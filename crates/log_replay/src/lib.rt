@@ -8,12 +8,17 @@
 
 #![tactic(auto)]
 
+mod any_yards;
 mod errors;
-mod kinds;
+mod kind_yards;
+mod lines;
 mod logs;
+mod openings;
 mod replays;
 
+pub use any_yards::AnyYard;
 pub use errors::{LineError, LogError};
-pub use kinds::{AfterOpen, AnyYard};
+pub use kind_yards::KindYard;
 pub use logs::replay_log;
+pub use openings::AfterOpen;
 pub use replays::Replay;

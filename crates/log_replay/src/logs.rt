@@ -1,19 +1,14 @@
 ghost use Rattle.std.specs.Prelude.{◌≡◌, IfOk, IfErr};
 ghost use Rattle.std.specs.Option.{option_map};
 ghost use Rattle.std.specs.String.{string_bytes};
-ghost use Rattle.log_replay.specs.Lines.{line_text};
 ghost use Rattle.log_replay.specs.Logs.{told_text, Replays, Fails};
 
 use crate::errors::{LineError, LogError};
 use crate::replays::Replay;
-use clock::Fault;
 use std::alloc::{AllocError, Global};
-use std::fmt::Display;
 use std::io;
 use std::io::{BufRead, BufWriter, Write};
 use std::process::ExitCode;
-use tree_clock::{TreeClock, TreePen};
-use vector_clock::{VectorClock, VectorPen};
 
 /// Replays the log to standard output, and stops at the first line that is no
 /// call, or cannot be read: what is told of it goes to standard error, and the
@@ -50,17 +45,9 @@ impl Replay {
         log: R,
         out: &mut W,
     ) -> Result<Option<String>, LogError>
-        ensures replays { let trees = line_text ⟦<Fault as Display>⟧.output
-            ⟦<TreePen as Display>⟧.output ⟦<TreeClock as Display>⟧.output in
-            let vectors = line_text ⟦<Fault as Display>⟧.output
-            ⟦<VectorPen as Display>⟧.output ⟦<VectorClock as Display>⟧.output in
-            IfOk result (λ told. Replays trees vectors (R.remaining log) self.old self.new
+        ensures replays { IfOk result (λ told. Replays (R.remaining log) self.old self.new
             (option_map string_bytes told) (W.contents out.old) (W.contents out.new)) }
-        ensures fails { let trees = line_text ⟦<Fault as Display>⟧.output
-            ⟦<TreePen as Display>⟧.output ⟦<TreeClock as Display>⟧.output in
-            let vectors = line_text ⟦<Fault as Display>⟧.output
-            ⟦<VectorPen as Display>⟧.output ⟦<VectorClock as Display>⟧.output in
-            IfErr result (λ error. Fails trees vectors (R.remaining log) self.old self.new
+        ensures fails { IfErr result (λ error. Fails (R.remaining log) self.old self.new
             error (W.contents out.old) (W.contents out.new)) }
     {
         let alloc = self.alloc;

@@ -1,21 +1,16 @@
 ghost use Rattle.std.specs.Prelude.{◌≡◌, None, codes, IfOk};
 ghost use Rattle.std.specs.Str.{bytes_eq};
-ghost use Rattle.log_replay.specs.Kinds.{AnyOpenLine, AnyOpenMistake};
-ghost use Rattle.log_replay.specs.Lines.{line_text};
+ghost use Rattle.log_replay.specs.AnyYards.{AnyOpenLine, AnyOpenMistake};
 ghost use Rattle.log_replay.specs.Outcomes.{Comes};
 ghost use Rattle.log_replay.specs.Replays.{Leaves, Ends, WordsLeave, WordsEnd, LineLeaves, LineEnds};
 ghost use Rattle.log_replay.specs.Words.{begins_remark, IsWords};
 
+use crate::any_yards::AnyYard;
 use crate::errors::LineError;
-use crate::kinds::AnyYard;
-use clock::Fault;
 use season_log::without_yard;
 use std::alloc::{AllocFailed, Global};
-use std::fmt::Display;
 use std::io::Write;
 use std::marker::Model;
-use tree_clock::{TreeClock, TreePen};
-use vector_clock::{VectorClock, VectorPen};
 
 /// A log that is being replayed, line by line.
 #[derive(Drop)]
@@ -29,7 +24,7 @@ pub struct Replay {
 /// that was accepted.
 impl Model for Replay {
     ghost use Rattle.std.specs.Prelude.{Option};
-    ghost use Rattle.log_replay.specs.declared.kinds.AnyYard.{AnyYard};
+    ghost use Rattle.log_replay.specs.declared.any_yards.AnyYard.{AnyYard};
 
     ghost Value = { Option AnyYard };
 
@@ -49,12 +44,8 @@ impl Replay {
     /// call, and where memory ran out before it, the yard is what it was and
     /// nothing was written.
     pub fn line<'a, W: Write>(&mut self, line: &'a str, out: &mut W) -> Result<(), LineError<'a>>
-        ensures { let trees = line_text ⟦<Fault as Display>⟧.output
-            ⟦<TreePen as Display>⟧.output ⟦<TreeClock as Display>⟧.output in
-            let vectors = line_text ⟦<Fault as Display>⟧.output
-            ⟦<VectorPen as Display>⟧.output ⟦<VectorClock as Display>⟧.output in
-            Comes (LineEnds line.now self.old) (self.new ≡ self.old)
-            (LineLeaves trees vectors line.now self.old self.new)
+        ensures { Comes (LineEnds line.now self.old) (self.new ≡ self.old)
+            (LineLeaves line.now self.old self.new)
             result (W.contents out.old) (W.contents out.new) }
     {
         let words = words_of(self.alloc, line)?;
@@ -62,12 +53,8 @@ impl Replay {
     }
 
     fn words<'a, W: Write>(&mut self, words: &[&'a str], out: &mut W) -> Result<(), LineError<'a>>
-        ensures { let trees = line_text ⟦<Fault as Display>⟧.output
-            ⟦<TreePen as Display>⟧.output ⟦<TreeClock as Display>⟧.output in
-            let vectors = line_text ⟦<Fault as Display>⟧.output
-            ⟦<VectorPen as Display>⟧.output ⟦<VectorClock as Display>⟧.output in
-            Comes (WordsEnd words.now self.old) (self.new ≡ self.old)
-            (WordsLeave trees vectors words.now self.old self.new)
+        ensures { Comes (WordsEnd words.now self.old) (self.new ≡ self.old)
+            (WordsLeave words.now self.old self.new)
             result (W.contents out.old) (W.contents out.new) }
     {
         match words {
@@ -83,13 +70,9 @@ impl Replay {
         arguments: &[&'a str],
         out: &mut W,
     ) -> Result<(), LineError<'a>>
-        ensures { let trees = line_text ⟦<Fault as Display>⟧.output
-            ⟦<TreePen as Display>⟧.output ⟦<TreeClock as Display>⟧.output in
-            let vectors = line_text ⟦<Fault as Display>⟧.output
-            ⟦<VectorPen as Display>⟧.output ⟦<VectorClock as Display>⟧.output in
-            let is_open = bytes_eq name.now (codes "open") in
+        ensures { let is_open = bytes_eq name.now (codes "open") in
             Comes (Ends is_open self.old name.entry arguments.now) (self.new ≡ self.old)
-            (Leaves trees vectors is_open self.old name.now arguments.now self.new)
+            (Leaves is_open self.old name.now arguments.now self.new)
             result (W.contents out.old) (W.contents out.new) }
     {
         if name == "open" {
@@ -109,12 +92,8 @@ impl Replay {
         arguments: &[&'a str],
         out: &mut W,
     ) -> Result<(), LineError<'a>>
-        ensures { let trees = line_text ⟦<Fault as Display>⟧.output
-            ⟦<TreePen as Display>⟧.output ⟦<TreeClock as Display>⟧.output in
-            let vectors = line_text ⟦<Fault as Display>⟧.output
-            ⟦<VectorPen as Display>⟧.output ⟦<VectorClock as Display>⟧.output in
-            Comes (AnyOpenMistake arguments.now) (self.new ≡ self.old)
-            (AnyOpenLine trees vectors arguments.now self.new)
+        ensures { Comes (AnyOpenMistake arguments.now) (self.new ≡ self.old)
+            (AnyOpenLine arguments.now self.new)
             result (W.contents out.old) (W.contents out.new) }
     {
         let (yard, written) = AnyYard::open(self.alloc, arguments, out)?;

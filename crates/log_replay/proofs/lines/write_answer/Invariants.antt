@@ -1,8 +1,8 @@
 use Rattle.std.proofs.Common.{take}
 use Rattle.std.specs.List.{flat_map}
 use Rattle.std.specs.Io.KnownBytes.{Appends}
-use Rattle.log_replay.specs.Lines.{word_text}
-use Rattle.log_replay.proofs.kinds.write_answer.Given as goal
+use Rattle.log_replay.specs.Texts.{word_text}
+use Rattle.log_replay.proofs.lines.write_answer.Given as goal
 
 abbrev pub invariant-loop-word : goal.invariant-loop-word
 invariant-loop-word g l =

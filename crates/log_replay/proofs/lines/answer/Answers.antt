@@ -1,11 +1,11 @@
 use Rattle.std.proofs.Common.{Some, refl}
-use Rattle.log_replay.specs.Lines.{line_text}
+use Rattle.log_replay.specs.Texts.{line_text}
 use Rattle.log_replay.proofs.Taken.{carried_line, not_taken, mistaken_line}
-use Rattle.log_replay.proofs.kinds.answer.Goals as goal
+use Rattle.log_replay.proofs.lines.answer.Goals as goal
 
 pub returns-in-Ok-write_answer : goal.returns-in-Ok-write_answer
 returns-in-Ok-write_answer g c =
-    let text = line_text (Rattle.clock.specs.contracts.faults.FaultDisplay.TheImpl.output-value).it g.C.Pen.Display.output g.C.Display.output in
+    let text = line_text g.C.Pen.Display.output g.C.Display.output in
     let e = c.carry_out-yard.ensures in (
       Some (text c.args.name.now c.args.arguments.now c.in-Ok-carried.answered),
       carried_line g.P.FromStr.from_str_gives g.C.Clock.meaning g.P.Payload.same c.args.yard c.args.name c.args.arguments.now c.carry_out-yard.result.0 c.in-Ok.call c.carry_out-yard.result.1 c.in-Ok.ensures.read e.carried e.mistake text c.in-Ok-carried.answered c.in-Ok-carried.is,
@@ -14,7 +14,7 @@ returns-in-Ok-write_answer g c =
 
 pub returns-in-Err-write_answer : goal.returns-in-Err-write_answer
 returns-in-Err-write_answer g c =
-    let text = line_text (Rattle.clock.specs.contracts.faults.FaultDisplay.TheImpl.output-value).it g.C.Pen.Display.output g.C.Display.output in
+    let text = line_text g.C.Pen.Display.output g.C.Display.output in
     let e = c.carry_out-yard.ensures in (
       text c.args.name.now c.args.arguments.now c.in-Ok-carried.answered,
       carried_line g.P.FromStr.from_str_gives g.C.Clock.meaning g.P.Payload.same c.args.yard c.args.name c.args.arguments.now c.carry_out-yard.result.0 c.in-Ok.call c.carry_out-yard.result.1 c.in-Ok.ensures.read e.carried e.mistake text c.in-Ok-carried.answered c.in-Ok-carried.is,

@@ -1,5 +1,5 @@
 use Rattle.log_replay.proofs.Standing.{stand_on, none_at, told}
-use Rattle.log_replay.proofs.kinds.open_season.Goals as goal
+use Rattle.log_replay.proofs.openings.open_season.Goals as goal
 
 pub returns-in_err-read_payload-clause-mistake : goal.returns-in_err-read_payload-clause-mistake
 returns-in_err-read_payload-clause-mistake g c =
