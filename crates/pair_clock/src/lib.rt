@@ -1,5 +1,5 @@
 //! Two counts, the ship's and the launch's: the smallest clock kind, and the
-//! example of `docs/YOUR-OWN-KIND.md`.
+//! example of `docs/how-to/add-a-clock-kind.md`.
 //!
 //! ```text
 //! let (ship, launch) = PairClock::fork(&PairClock::seed())?;
