@@ -2,8 +2,8 @@
 use Rattle.std.proofs.Common.{◌≡◌, ℕ, Bool, true, false, List, Some, Option, Ok, Err, Result, IsOkAnd, IsErrOf, refl, subst, inr}
 use Rattle.clock.specs.declared.faults.Fault.{Fault}
 use Rattle.clock.specs.Meaning.{Meaning}
-use Rattle.season_log.specs.declared.answers.Answer.{Answer}
-use Rattle.season_log.specs.declared.calls.Call.{Call}
+use Rattle.season_log.specs.declared.answers.Reply.{Reply}
+use Rattle.history.specs.declared.calls.Call.{Call}
 use Rattle.season_log.specs.declared.mistakes.Mistake.{Mistake}
 use Rattle.season_log.specs.declared.mistakes.Mistake.TheVariants.{Sealed}
 use Rattle.season_log.specs.declared.mistakes.PayloadError.{PayloadError}
@@ -24,9 +24,9 @@ is_not_taken false e fact h = refl
 err_is : {X E : Type 0} (k e : E) → ◌≡◌ {A = Result X E} (Err k) (Err e) → k ≡ e
 err_is k e q = cc
 
-module _ {Pen C P E : Type 0} (g : List ℕ → Result P E → Type 0) (m : Meaning Pen C) (alike : P → P → Bool) (y : Yard C P Pen) (name : Word) (ws : List Word) (z : Yard C P Pen) (call : Call P) (r : Result (Result (Answer Pen C) Fault) Mistake)
+module _ {Pen C P E : Type 0} (g : List ℕ → Result P E → Type 0) (m : Meaning Pen C) (alike : P → P → Bool) (y : Yard C P Pen) (name : Word) (ws : List Word) (z : Yard C P Pen) (call : Call P) (r : Result (Result (Reply Pen C) Fault) Mistake)
     (spells : Spells g name.now ws call) (carried : takes y call ≡ true → IsOkAnd r (Carried m alike y call z)) (mistaken : takes y call ≡ false → IsErrOf r (Sealed name)) where
-  pub carried_line : (text : List ℕ → List Word → Result (Answer Pen C) Fault → Option (List ℕ)) (a : Result (Answer Pen C) Fault) → r ≡ Ok a → Line g m alike text y name.now ws z (Some (text name.now ws a))
+  pub carried_line : (text : List ℕ → List Word → Result (Reply Pen C) Fault → Option (List ℕ)) (a : Result (Reply Pen C) Fault) → r ≡ Ok a → Line g m alike text y name.now ws z (Some (text name.now ws a))
   carried_line text a e =
       let t : takes y call ≡ true = is_taken (takes y call) a (Sealed name) (subst (λ q. takes y call ≡ false → IsErrOf q (Sealed name)) e mistaken) in
       record {

@@ -11,8 +11,8 @@
 use Rattle.std.specs.Prelude.{◌≡◌, ◌⊎◌, Bool, true, false, ℕ, List, Some, Result}
 use Rattle.clock.specs.declared.faults.Fault.{Fault}
 use Rattle.clock.specs.Meaning.{Meaning}
-use Rattle.season_log.specs.declared.answers.Answer.{Answer}
-use Rattle.season_log.specs.declared.calls.Call.{Call}
+use Rattle.season_log.specs.declared.answers.Reply.{Reply}
+use Rattle.history.specs.declared.calls.Call.{Call}
 use Rattle.season_log.specs.declared.mistakes.Mistake.{Mistake}
 use Rattle.season_log.specs.declared.mistakes.Mistake.TheVariants.{Sealed}
 use Rattle.season_log.specs.declared.mistakes.PayloadError.{PayloadError}
@@ -28,7 +28,7 @@ module _ {Pen C P E : Type 0} (g : List ℕ → Result P E → Type 0) where
       (y : Yard C P Pen) (name : List ℕ) (ws : List Word) (z : Yard C P Pen) (p : Prints) :
       Type 0 where
     pub call : Call P
-    pub answer : Result (Answer Pen C) Fault
+    pub answer : Result (Reply Pen C) Fault
     pub spells : Spells g name ws call
     pub taken : takes y call ≡ true
     pub carried : Carried m alike y call z answer

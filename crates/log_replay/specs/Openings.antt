@@ -19,8 +19,8 @@ use Rattle.clock.specs.declared.faults.Fault.{Fault}
 use Rattle.clock.specs.Answers.{fault_of}
 use Rattle.clock.specs.Meaning.{Meaning}
 use Rattle.season.specs.Opens.{Opened, within}
-use Rattle.season_log.specs.declared.answers.Answer.{Answer}
-use Rattle.season_log.specs.declared.answers.Answer.TheVariants.{Opened as OpenedAnswer}
+use Rattle.season_log.specs.declared.answers.Reply.{Reply}
+use Rattle.season_log.specs.declared.answers.Reply.TheVariants.{Opened as OpenedAnswer}
 use Rattle.season_log.specs.declared.mistakes.Mistake.{Mistake}
 use Rattle.season_log.specs.declared.mistakes.PayloadError.{PayloadError}
 use Rattle.season_log.specs.Words.{Word, PayloadMistake}
@@ -38,7 +38,7 @@ Unopened told (Unanswered e) = ⊥
 
 abbrev pub OpensTo :
     {Pen C P : Type 0} → Meaning Pen C → ℕ → List P →
-    Option (Yard C P Pen) → Result (Answer Pen C) Fault → Type 0
+    Option (Yard C P Pen) → Result (Reply Pen C) Fault → Type 0
 OpensTo m b ps None r = (within b (length ps) ≡ false) × (r ≡ Err (fault_of Sizes))
 OpensTo m b ps (Some (Open h)) r = Opened m b ps h × (r ≡ Ok (OpenedAnswer h.card))
 OpensTo m b ps (Some (Sealed h)) r = ⊥
@@ -61,14 +61,14 @@ module _ {P E : Type 0} (g : List ℕ → Result P E → Type 0) where
 
   pub record OpensYard {Pen C : Type 0} (m : Meaning Pen C) (b : ℕ)
       (words : List Word) (y : Option (Yard C P Pen))
-      (answer : Result (Answer Pen C) Fault) : Type 0 where
+      (answer : Result (Reply Pen C) Fault) : Type 0 where
     pub payloads : List P
     pub stand : Payloads words payloads
     pub opens : OpensTo m b payloads y answer
 
   pub record OpenLine {Pen C : Type 0} (m : Meaning Pen C) (text : LineText Pen C)
       (b : ℕ) (words arguments : List Word) (y : Option (Yard C P Pen)) (p : Prints) : Type 0 where
-    pub answer : Result (Answer Pen C) Fault
+    pub answer : Result (Reply Pen C) Fault
     pub opens : OpensYard m b words y answer
     pub printed : p ≡ Some (text (codes "open") arguments answer)
 

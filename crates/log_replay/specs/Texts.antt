@@ -20,8 +20,8 @@ use Rattle.tree_clock.specs.Texts.{pen_text, clock_text}
 use Rattle.vector_clock.specs.declared.clocks.Counts.{Counts}
 use Rattle.vector_clock.specs.declared.pens.Names.{Names}
 use Rattle.vector_clock.specs.Texts.{names_text, counts_text}
-use Rattle.season_log.specs.declared.answers.Answer.{Answer}
-use Rattle.season_log.specs.Answers.{answer_text}
+use Rattle.season_log.specs.declared.answers.Reply.{Reply}
+use Rattle.season_log.specs.Answers.{reply_text}
 use Rattle.season_log.specs.Words.{Word}
 
 abbrev pub word_text : Word → List ℕ
@@ -31,11 +31,11 @@ abbrev pub words_text : List ℕ → List Word → List ℕ
 words_text name ws = name ++ flat_map word_text ws
 
 abbrev pub LineText : Type 0 → Type 0 → Type 0
-LineText Pen C = List ℕ → List Word → Result (Answer Pen C) Fault → Option (List ℕ)
+LineText Pen C = List ℕ → List Word → Result (Reply Pen C) Fault → Option (List ℕ)
 
 module _ {Pen C : Type 0} (q : Pen → Option (List ℕ)) (c : C → Option (List ℕ)) where
-  abbrev pub answered_text : Result (Answer Pen C) Fault → Option (List ℕ)
-  answered_text (Ok a) = answer_text q c a
+  abbrev pub answered_text : Result (Reply Pen C) Fault → Option (List ℕ)
+  answered_text (Ok a) = reply_text q c a
   answered_text (Err e) = Some (fault_text e)
 
   abbrev pub line_text : LineText Pen C

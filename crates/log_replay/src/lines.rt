@@ -6,7 +6,7 @@ ghost use Rattle.log_replay.specs.Texts.{line_text};
 use crate::errors::LineError;
 use clock::Clock;
 use payload::Payload;
-use season_log::{Call, PayloadError};
+use season_log::{PayloadError, read_call};
 use season_replay::{Answered, Yard};
 use std::fmt::Display;
 use std::io;
@@ -31,7 +31,7 @@ where
         (Line P.from_str_gives C.meaning P.same text yard name.now arguments.now result.0)
         result.1 (W.contents out.old) (W.contents out.new) }
 {
-    let call = match Call::read(name, arguments) {
+    let call = match read_call(name, arguments) {
         Ok(call) => call,
         Err(mistake) => return (yard, Err(LineError::Mistake(mistake))),
     };

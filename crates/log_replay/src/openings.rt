@@ -8,7 +8,7 @@ use crate::lines::write_answer;
 use clock::Clock;
 use payload::Payload;
 use season::{OpenError, Season};
-use season_log::{Answer, Opening, PayloadError, read_payload};
+use season_log::{Opening, PayloadError, Reply, read_payload};
 use season_replay::{Answered, Yard};
 use std::alloc::Global;
 use std::fmt::Display;
@@ -65,7 +65,7 @@ where
     match Season::<_, C, P>::open(alloc, asked.berths, &payloads) {
         Ok(season) => {
             let sizes = season.sizes();
-            Ok((Some(Yard::Open(season)), Ok(Answer::Opened(sizes))))
+            Ok((Some(Yard::Open(season)), Ok(Reply::Opened(sizes))))
         }
         Err(OpenError::Refused(fault)) => Ok((None, Err(fault))),
         Err(OpenError::OutOfMemory) => Err(LineError::OutOfMemory),

@@ -11,7 +11,8 @@ use Rattle.history.specs.declared.tables.Record.{Record}
 use Rattle.history.specs.Tables.{Made}
 use Rattle.history.specs.Checks.{Left}
 use Rattle.history.specs.Page.{Asked}
-use Rattle.history.specs.Calls.{page_of, Value, leaves}
+use Rattle.history.specs.declared.answers.Answer.{Answer}
+use Rattle.history.specs.Calls.{page_of, Value, leaves, said}
 use Rattle.history.specs.Law.{Yard, yard, called, all_called, after, new_yard, LawOf}
 use Rattle.history.specs.Open.{open_result}
 use Rattle.season.specs.Replays.{Replayed}
@@ -65,3 +66,7 @@ module _ {Pen C P : Type 0} (m : Meaning Pen C) (alike : P → P → Bool) where
 
     pub both_led : length l.berths ≡ bs.len → length l.copies ≡ cs.len → ∥ Replayed m alike (with_items bs l.berths).items (with_items cs l.copies).items ∥₁
     both_led nb nc = subst (λ ys. ∥ Replayed m alike (with_items bs l.berths).items ys ∥₁) (sym (with_items_is cs l.copies nc)) (subst (λ xs. ∥ Replayed m alike xs l.copies ∥₁) (sym (with_items_is bs l.berths nb)) led)
+
+  -- the same, of what any call is said to leave
+  pub said_led : {Z : Type 0} (bs : Vec (Berth Pen) Z) (cs : Vec (Record C P) Z) (q : Asked P) (k : Left Pen C P (Answer Pen C)) → k ≡ said m alike q bs.items cs.items → ∥ Replayed m alike bs.items cs.items ∥₁ → length k.berths ≡ bs.len → length k.copies ≡ cs.len → ∥ Replayed m alike (with_items bs k.berths).items (with_items cs k.copies).items ∥₁
+  said_led bs cs q k e r = subst (λ (k : Left Pen C P (Answer Pen C)). length k.berths ≡ bs.len → length k.copies ≡ cs.len → ∥ Replayed m alike (with_items bs k.berths).items (with_items cs k.copies).items ∥₁) (sym e) (both_led bs cs q (leaves m alike q bs.items cs.items) refl r)

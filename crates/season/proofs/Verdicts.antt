@@ -11,9 +11,11 @@ use Rattle.history.specs.Checks.{Left}
 use Rattle.history.specs.Judge.{judge_call}
 use Rattle.history.specs.Report.{report_call}
 use Rattle.history.specs.Pull.{pull_call}
+use Rattle.history.specs.Page.{Asked}
+use Rattle.history.specs.Calls.{leaves}
 use Rattle.history.specs.Law.{LawfulCall}
 use Rattle.season.specs.Held.{held}
-use Rattle.season.specs.Replays.{Replayed, Behind, EachBehind}
+use Rattle.season.specs.Replays.{Replayed, Behind, EachBehind, LawfulIn}
 
 -- a fact of two tables, said of what they are equal to
 pub moved : {A B : Type 0} (fact : A → B → Type 0) {x y : A} {u v : B} → x ≡ y → u ≡ v → fact x u → fact y v
@@ -31,3 +33,7 @@ module _ {Pen C P : Type 0} (m : Meaning Pen C) (alike : P → P → Bool) (bs :
   pub pulled_behind : (bytes : List ℕ) (r : Result (ℕ × ℕ) Fault) (l : Left Pen C P (ℕ × ℕ)) → l.answer ≡ r → LawfulCall m alike (pull_call card a b bytes) bs cs l → OnOk r ∥ EachBehind m alike (held card bs cs) b a l.bytes ∥₁
   pulled_behind bytes (Ok v) l is law = ∥∥₁_map led (λ q. record { replayed = q; compares = (law q.payloads q.history q.reached).lawful.gives v is })
   pulled_behind bytes (Err e) l is law = tt
+
+-- any call is lawful, of the edits behind the copies
+pub lawful_in : {Pen C P : Type 0} (m : Meaning Pen C) (alike : P → P → Bool) (bs : List (Berth Pen)) (cs : List (Record C P)) (card : Card) (q : Asked P) → ∥ Replayed m alike bs cs ∥₁ → LawfulCall m alike q bs cs (leaves m alike q bs cs) → ∥ LawfulIn m alike (held card bs cs) q ∥₁
+lawful_in m alike bs cs card q led law = ∥∥₁_map led (λ r. record { replayed = r; lawful = (law r.payloads r.history r.reached).lawful })

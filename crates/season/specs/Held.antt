@@ -3,6 +3,7 @@
 -- held card bs cs       the season of this card and these tables
 -- left_in r h bytes     a call was answered r, and left this season and this buffer
 -- leaves_in m alike h q what the call is answered and leaves in the season h
+-- said_in m alike h q   the same, with the answer as a value of the one type of answers
 use Rattle.std.specs.Prelude.{ℕ, Bool, List, Result}
 use Rattle.clock.specs.declared.faults.Fault.{Fault}
 use Rattle.clock.specs.Meaning.{Meaning}
@@ -11,7 +12,8 @@ use Rattle.history.specs.declared.tables.Record.{Record}
 use Rattle.history.specs.Tables.{Card}
 use Rattle.history.specs.Checks.{Left, left}
 use Rattle.history.specs.Page.{Asked}
-use Rattle.history.specs.Calls.{Value, leaves}
+use Rattle.history.specs.declared.answers.Answer.{Answer}
+use Rattle.history.specs.Calls.{Value, leaves, said}
 
 pub record Held (Pen C P : Type 0) : Type 0 where
   pub card : Card
@@ -27,3 +29,6 @@ module _ {Pen C P : Type 0} where
 
   abbrev pub leaves_in : (m : Meaning Pen C) → (P → P → Bool) → Held Pen C P → (q : Asked P) → Left Pen C P (Value m q)
   leaves_in m alike h q = leaves m alike q h.berths h.copies
+
+  abbrev pub said_in : Meaning Pen C → (P → P → Bool) → Held Pen C P → Asked P → Left Pen C P (Answer Pen C)
+  said_in m alike h q = said m alike q h.berths h.copies

@@ -3,14 +3,18 @@
 -- Replayed m alike bs cs              some list of calls leads to these tables, from what an accepted open left
 -- Behind m alike h a b f v            in the season h the verdict v compares the edits behind a's and b's copies of file f, as those calls made them
 -- EachBehind m alike h a b bytes      the same of byte f of a buffer, for each file f
+--
+-- LawfulIn m alike h q                the call q is lawful in the season h: of the edits behind its copies, as those calls made them
 use Rattle.std.specs.Prelude.{ℕ, ◌<◌, Bool, List, slice_index}
 use Rattle.clock.specs.declared.verdicts.Verdict.{Verdict}
 use Rattle.clock.specs.Meaning.{Meaning}
 use Rattle.history.specs.declared.tables.Berth.{Berth}
 use Rattle.history.specs.declared.tables.Record.{Record}
 use Rattle.history.specs.History.{History, Compares, ComparesByte}
-use Rattle.history.specs.Law.{yard, Reached}
-use Rattle.season.specs.Held.{Held}
+use Rattle.history.specs.Page.{Asked}
+use Rattle.history.specs.Calls.{page_of}
+use Rattle.history.specs.Law.{yard, Reached, Lawful}
+use Rattle.season.specs.Held.{Held, leaves_in}
 
 module _ {Pen C P : Type 0} (m : Meaning Pen C) (alike : P → P → Bool) where
   pub record Replayed (bs : List (Berth Pen)) (cs : List (Record C P)) : Type 0 where
@@ -26,3 +30,7 @@ module _ {Pen C P : Type 0} (m : Meaning Pen C) (alike : P → P → Bool) where
     pub record EachBehind (a b : ℕ) (bytes : List ℕ) : Type 0 where
       pub replayed : Replayed h.berths h.copies
       pub compares : (f : ℕ) → f < h.card.files → ComparesByte (slice_index bytes f) (replayed.history.behind a f) (replayed.history.behind b f)
+
+    pub record LawfulIn (q : Asked P) : Type 0 where
+      pub replayed : Replayed h.berths h.copies
+      pub lawful : Lawful replayed.payloads replayed.history (page_of m q) (leaves_in m alike h q)

@@ -2,14 +2,16 @@ ghost use Rattle.std.specs.Prelude.{◌≡◌, [], IfOk, OnOk};
 ghost use Rattle.history.specs.Judge.{judge_call};
 ghost use Rattle.history.specs.Report.{report_call};
 ghost use Rattle.history.specs.Show.{show_call};
-ghost use Rattle.season.specs.Held.{left_in, leaves_in};
-ghost use Rattle.season.specs.Replays.{Behind, EachBehind};
+ghost use Rattle.history.specs.declared.calls.Call.TheVariants.{Reads};
+ghost use Rattle.history.specs.Page.{asked};
+ghost use Rattle.season.specs.Held.{left_in, leaves_in, said_in};
+ghost use Rattle.season.specs.Replays.{Behind, EachBehind, LawfulIn};
 
 use crate::seasons::Season;
 use clock::{Clock, Fault, Verdict};
-use history::Sizes;
+use history::{Answer, Reading, Sizes};
 use payload::Payload;
-use yard::{Card, judge, report, show};
+use yard::{Card, judge, read, report, show};
 
 impl<K: Card, C: Clock, P: Payload> Season<K, C, P> {
     /// How many berths and files the yard has.
@@ -17,6 +19,18 @@ impl<K: Card, C: Clock, P: Payload> Season<K, C, P> {
         ensures { result ≡ self.now.card }
     {
         self.card.sizes()
+    }
+
+    /// Carries out any call that reads. The buffer has room for a byte of each
+    /// file where the call fills it.
+    pub fn read(&self, bytes: &mut [u8], call: Reading) -> Result<Answer<C::Pen, C>, Fault>
+        ensures result { let q = asked self.now.card (Reads call) bytes.old in
+            left_in result self.now bytes.new ≡ said_in C.meaning P.same self.now q }
+        ensures edits { let q = asked self.now.card (Reads call) bytes.old in
+            ∥ LawfulIn C.meaning P.same self.now q ∥₁ }
+    {
+        self.law();
+        read(&self.card, &self.berths, &self.copies, bytes, call)
     }
 
     /// The verdict on berth a's copy of file f against b's.

@@ -5,15 +5,31 @@ ghost use Rattle.history.specs.Pull.{pull_call};
 ghost use Rattle.history.specs.Settle.{settle_call};
 ghost use Rattle.history.specs.Retire.{retire_call};
 ghost use Rattle.history.specs.Drop.{drop_call};
-ghost use Rattle.season.specs.Held.{left_in, leaves_in};
-ghost use Rattle.season.specs.Replays.{EachBehind};
+ghost use Rattle.history.specs.declared.calls.Call.TheVariants.{Writes};
+ghost use Rattle.history.specs.Page.{asked};
+ghost use Rattle.season.specs.Held.{left_in, leaves_in, said_in};
+ghost use Rattle.season.specs.Replays.{EachBehind, LawfulIn};
 
 use crate::seasons::Season;
 use clock::{Clock, Fault};
+use history::{Answer, Writing};
 use payload::Payload;
-use yard::{OpenCard, SealedCard, drop, edit, fork, pull, retire, seal, settle};
+use yard::{OpenCard, SealedCard, drop, edit, fork, pull, retire, seal, settle, write};
 
 impl<C: Clock, P: Payload> Season<OpenCard, C, P> {
+    /// Carries out any call that writes. The buffer has room for a byte of each
+    /// file where the call fills it.
+    pub fn write(&mut self, bytes: &mut [u8], call: Writing<P>) -> Result<Answer<C::Pen, C>, Fault>
+        ensures result { let q = asked self.old.card (Writes call) bytes.old in
+            left_in result self.new bytes.new ≡ said_in C.meaning P.same self.old q }
+        ensures edits { let q = asked self.old.card (Writes call) bytes.old in
+            ∥ LawfulIn C.meaning P.same self.old q ∥₁ }
+        ensures card { self.new.card ≡ self.old.card }
+    {
+        self.law();
+        write(&self.card, &mut self.berths, &mut self.copies, bytes, call)
+    }
+
     /// Working berth a gives empty berth b half of its pen, and its copies.
     pub fn fork(&mut self, a: usize, b: usize) -> Result<(), Fault>
         ensures result { left_in result self.new [] ≡ leaves_in C.meaning P.same self.old (fork_call self.old.card a b) }

@@ -12,10 +12,10 @@
 -- HasName name t some call has the name, and takes (t) a payload or none
 -- Makes r name ns p  r is the row of a call with this name, the first of these numbers, and this payload
 use Rattle.std.specs.Prelude.{◌≡◌, ◌≢◌, ◌+◌, codes, ℕ, List, [], ◌∷◌, take, length, Bool, Some, None, Option, is_some}
-use Rattle.season_log.specs.declared.calls.Call.{Call}
-use Rattle.season_log.specs.declared.calls.Call.TheVariants.{Reads, Writes, Seal}
-use Rattle.season_log.specs.declared.calls.Reading.TheVariants.{Judge, Report, Show}
-use Rattle.season_log.specs.declared.calls.Writing.TheVariants.{Fork, Edit, Pull, Settle, Retire, Drop}
+use Rattle.history.specs.declared.calls.Call.{Call}
+use Rattle.history.specs.declared.calls.Call.TheVariants.{Reads, Writes, Seal}
+use Rattle.history.specs.declared.calls.Reading.TheVariants.{Judge, Report, Show}
+use Rattle.history.specs.declared.calls.Writing.TheVariants.{Fork, Edit, Pull, Settle, Retire, Drop}
 use Rattle.season_log.specs.declared.forms.Form.{Form}
 
 pub record Row (P : Type 0) : Type 0 where

@@ -1,84 +1,63 @@
 ghost use Rattle.std.specs.Prelude.{take};
 ghost use Rattle.std.specs.Fmt.{WritesOnOk};
-ghost use Rattle.season_log.specs.Answers.{answer_text, bytes_text};
+ghost use Rattle.season_log.specs.Answers.{reply_text, bytes_text};
 
-use clock::Verdict;
-use history::Sizes;
+use history::{Answer, Sizes};
 use std::fmt;
 
 /// A byte for each file that a yard can have.
 pub type Buffer = [u8; 32];
 
-/// What a call of a log is answered when it is accepted.
+/// What a line of a log is answered when its call is accepted.
 #[derive(Clone, Copy, PartialEq, Eq, Debug)]
-pub enum Answer<Q, C> {
-    /// The call was accepted and answers nothing.
-    Done,
+pub enum Reply<Q, C> {
     /// A yard of these sizes was opened.
     Opened(Sizes),
-    /// The verdict on one copy against another.
-    Judged(Verdict),
-    /// The verdicts of a report, and its counts.
-    Reported {
+    /// A call's answer, and its buffer, with a verdict on each of so many files
+    /// where the call gives them.
+    Answered {
+        answer: Answer<Q, C>,
         bytes: Buffer,
         files: usize,
-        equal: usize,
-        stale: usize,
-        ahead: usize,
-        conflicts: usize,
-        twins: usize,
-    },
-    /// The verdicts that a pull went by, and its counts.
-    Pulled {
-        bytes: Buffer,
-        files: usize,
-        taken: usize,
-        conflicts: usize,
-    },
-    /// The pen of a berth and the clock of its copy.
-    Shown {
-        pen: Q,
-        clock: C,
     },
 }
 
-/// The answer as a log prints it; a refusal prints itself.
-impl<Q: fmt::Display, C: fmt::Display> fmt::Display for Answer<Q, C> {
-    ghost output = { answer_text Q.output C.output };
+/// The reply as a log prints it; a refusal prints itself.
+impl<Q: fmt::Display, C: fmt::Display> fmt::Display for Reply<Q, C> {
+    ghost output = { reply_text Q.output C.output };
 
     fn fmt<W: fmt::Write>(&self, f: &mut fmt::Formatter<W>) -> fmt::Result {
         match self {
-            Answer::Done => write!(f, "ok"),
-            Answer::Opened(sizes) => {
+            Reply::Opened(sizes) => {
                 let (berths, files) = (sizes.berths, sizes.files);
                 write!(f, "ok {berths} berths {files} files")
             }
-            Answer::Judged(verdict) => write!(f, "{verdict}"),
-            Answer::Reported {
+            Reply::Answered {
+                answer,
                 bytes,
                 files,
-                equal,
-                stale,
-                ahead,
-                conflicts,
-                twins,
-            } => {
-                write_bytes(f, bytes, *files)?;
-                write!(
-                    f,
-                    "| equal {equal} stale {stale} ahead {ahead} conflict {conflicts} twins {twins}"
-                )
-            }
-            Answer::Pulled {
-                bytes,
-                files,
-                taken,
-                conflicts,
-            } => {
-                write_bytes(f, bytes, *files)?;
-                write!(f, "| taken {taken} conflict {conflicts}")
-            }
-            Answer::Shown { pen, clock } => write!(f, "{pen} {clock}"),
+            } => match answer {
+                Answer::Done => write!(f, "ok"),
+                Answer::Judged(verdict) => write!(f, "{verdict}"),
+                Answer::Reported {
+                    equal,
+                    stale,
+                    ahead,
+                    conflicts,
+                    twins,
+                } => {
+                    write_bytes(f, bytes, *files)?;
+                    write!(
+                        f,
+                        "| equal {equal} stale {stale} ahead {ahead} conflict {conflicts} twins {twins}"
+                    )
+                }
+                Answer::Pulled { taken, conflicts } => {
+                    write_bytes(f, bytes, *files)?;
+                    write!(f, "| taken {taken} conflict {conflicts}")
+                }
+                Answer::Shown { pen, clock } => write!(f, "{pen} {clock}"),
+            },
         }
     }
 }

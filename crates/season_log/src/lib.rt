@@ -6,13 +6,12 @@
 //!
 //! ```text
 //! Opening::read(&["tree", "valve", "2", "shut", "flow:300"])?    // two berths, two files
-//! Call::<Valve>::read("edit", &["0", "1", "part:40"])?           // Writing::Edit { a: 0, f: 1, payload }
+//! read_call::<Valve>("edit", &["0", "1", "part:40"])?            // Writing::Edit { a: 0, f: 1, payload }
 //! ```
 
 #![tactic(auto)]
 
 mod answers;
-mod calls;
 mod forms;
 mod mistakes;
 mod no_yard;
@@ -20,10 +19,9 @@ mod numbers;
 mod openings;
 mod reading;
 
-pub use answers::{Answer, Buffer};
-pub use calls::{Call, Reading, Writing};
+pub use answers::{Buffer, Reply};
 pub use forms::{FORMS, Form};
 pub use mistakes::{Mistake, PayloadError};
 pub use no_yard::without_yard;
 pub use openings::{Kind, Opening, PayloadKind};
-pub use reading::read_payload;
+pub use reading::{read_call, read_payload};

@@ -3,29 +3,29 @@ ghost use Rattle.season_log.specs.Calls.{Spells, Unread, Complete};
 ghost use Rattle.season_log.specs.Rows.{row, HasName, Makes};
 ghost use Rattle.season_log.specs.Words.{Numbers, number_mistake, PayloadMistake};
 
-use crate::calls::{Call, Reading, Writing};
 use crate::forms::form_of;
 use crate::mistakes::{Mistake, PayloadError};
 use crate::numbers::number;
+use history::{Call, Reading, Writing};
 use std::str::FromStr;
 
-impl<P: FromStr> Call<P>
+/// The call of this name that the words after it ask for.
+pub fn read_call<'a, P: FromStr>(
+    name: &'a str,
+    arguments: &[&'a str],
+) -> Result<Call<P>, Mistake<'a>>
 where
     PayloadError: From<P::Err>,
+    ensures read { IfOk result (Spells P.from_str_gives name.now arguments.now) }
+    ensures complete { Complete P.from_str_gives name.now arguments.now result }
+    ensures refused { let c = ⟦<PayloadError as From<P::Err>>⟧.from_gives in
+        IfErr result (Unread P.from_str_gives c name.entry arguments.now) }
 {
-    /// The call of this name that the words after it ask for.
-    pub fn read<'a>(name: &'a str, arguments: &[&'a str]) -> Result<Call<P>, Mistake<'a>>
-        ensures read { IfOk result (Spells P.from_str_gives name.now arguments.now) }
-        ensures complete { Complete P.from_str_gives name.now arguments.now result }
-        ensures refused { let c = ⟦<PayloadError as From<P::Err>>⟧.from_gives in
-            IfErr result (Unread P.from_str_gives c name.entry arguments.now) }
-    {
-        read_call(name, arguments)
-    }
+    spelled_call(name, arguments)
 }
 
-// The same, to whose two clauses `read` adds that no call is missed.
-fn read_call<'a, P: FromStr>(name: &'a str, arguments: &[&'a str]) -> Result<Call<P>, Mistake<'a>>
+// The same, to whose two clauses `read_call` adds that no call is missed.
+fn spelled_call<'a, P: FromStr>(name: &'a str, arguments: &[&'a str]) -> Result<Call<P>, Mistake<'a>>
 where
     PayloadError: From<P::Err>,
     ensures read { IfOk result (Spells P.from_str_gives name.now arguments.now) }

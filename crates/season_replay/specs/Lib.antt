@@ -1,2 +1,1 @@
-pub mod Carries
 pub mod Yards

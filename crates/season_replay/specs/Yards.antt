@@ -4,23 +4,29 @@
 -- is_sealed y         whether the yard is sealed
 -- reads c, seals c    whether the call reads, or is seal
 -- takes y c           an open yard takes every call, a sealed one a call that reads
--- call_left h c       what the call is answered, and leaves of the two tables; seal leaves both as they are
+-- zeros              a buffer before a call writes it
+-- replied h c         what the call is answered in the season h, and what it leaves of the two tables
 -- Carried y c z r     the call c in the yard y leaves the yard z and is answered r:
 --   sealed            it is sealed if it was, or if the call is seal
 --   card              its card has the sizes that it had
 --   tables            the answer and the two tables are those of the call
-use Rattle.std.specs.Prelude.{◌≡◌, Bool, true, false, not, ◌||◌, [], Ok, Result}
+use Rattle.std.specs.Prelude.{◌≡◌, ℕ, Bool, true, false, not, ◌||◌, List, [], Ok, Result, replicate}
 use Rattle.clock.specs.declared.faults.Fault.{Fault}
 use Rattle.clock.specs.Meaning.{Meaning}
-use Rattle.history.specs.Checks.{Left}
-use Rattle.season.specs.Held.{Held, left_in}
-use Rattle.season_log.specs.declared.answers.Answer.{Answer}
-use Rattle.season_log.specs.declared.answers.Answer.TheVariants.{Done}
-use Rattle.season_log.specs.declared.calls.Call.{Call}
-use Rattle.season_log.specs.declared.calls.Call.TheVariants.{Reads, Writes, Seal}
+use Rattle.history.specs.declared.answers.Answer.{Answer}
+use Rattle.history.specs.declared.calls.Call.{Call}
+use Rattle.history.specs.declared.calls.Call.TheVariants.{Reads, Writes, Seal}
+use Rattle.history.specs.Checks.{Left, left}
+use Rattle.history.specs.Page.{asked}
+use Rattle.history.specs.Calls.{in_form}
+use Rattle.season.specs.Held.{Held, left_in, said_in}
+use Rattle.season_log.specs.declared.answers.Reply.{Reply}
+use Rattle.season_log.specs.declared.answers.Reply.TheVariants.{Answered}
 use Rattle.season_replay.specs.declared.yards.Yard.{Yard}
 use Rattle.season_replay.specs.declared.yards.Yard.TheVariants.{Open, Sealed}
-use Rattle.season_replay.specs.Carries.{read_answer, write_left}
+
+abbrev pub zeros : List ℕ
+zeros = replicate 32 0
 
 module _ {P : Type 0} where
   abbrev pub reads : Call P → Bool
@@ -45,13 +51,14 @@ module _ {Pen C P : Type 0} where
   abbrev pub takes : Yard C P Pen → Call P → Bool
   takes y c = not (is_sealed y) || reads c
 
-  module _ (m : Meaning Pen C) (alike : P → P → Bool) where
-    abbrev pub call_left : Held Pen C P → Call P → Left Pen C P (Answer Pen C)
-    call_left h (Reads r) = left_in (read_answer m alike h r) h []
-    call_left h (Writes w) = write_left m alike h w
-    call_left h Seal = left_in (Ok Done) h []
+  abbrev pub reply_of : ℕ → Left Pen C P (Answer Pen C) → Left Pen C P (Reply Pen C)
+  reply_of files l = left (in_form (λ a. Answered a l.bytes files) l.answer) l.berths l.copies []
 
-    pub record Carried (y : Yard C P Pen) (c : Call P) (z : Yard C P Pen) (r : Result (Answer Pen C) Fault) : Type 0 where
+  module _ (m : Meaning Pen C) (alike : P → P → Bool) where
+    abbrev pub replied : Held Pen C P → Call P → Left Pen C P (Reply Pen C)
+    replied h c = reply_of h.card.files (said_in m alike h (asked h.card c zeros))
+
+    pub record Carried (y : Yard C P Pen) (c : Call P) (z : Yard C P Pen) (r : Result (Reply Pen C) Fault) : Type 0 where
       pub sealed : is_sealed z ≡ (is_sealed y || seals c)
       pub card : (season_of z).card ≡ (season_of y).card
-      pub tables : left_in r (season_of z) [] ≡ call_left (season_of y) c
+      pub tables : left_in r (season_of z) [] ≡ replied (season_of y) c

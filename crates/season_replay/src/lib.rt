@@ -2,13 +2,11 @@
 //!
 //! ```text
 //! let yard = Yard::Open(season);
-//! let (yard, answered) = yard.carry_out("judge", call);      // Ok(Ok(Answer::Judged(..))), a refusal, or a mistake
+//! let (yard, answered) = yard.carry_out("judge", call);      // Ok(Ok(Reply::Answered { .. })), a refusal, or a mistake
 //! ```
 
 #![tactic(auto)]
 
-mod calls;
 mod yards;
 
-pub use calls::{read, write};
 pub use yards::{Answered, Yard};

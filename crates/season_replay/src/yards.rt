@@ -1,14 +1,18 @@
-ghost use Rattle.std.specs.Prelude.{◌≡◌, true, false, IsOkAnd, IsErrOf};
+ghost use Rattle.std.specs.Prelude.{◌≡◌, [], true, false, IsOkAnd, IsErrOf};
 ghost use Rattle.season_log.specs.declared.mistakes.Mistake.TheVariants.{Sealed as SealedMistake};
 ghost use Rattle.season_replay.specs.declared.yards.Yard.TheVariants.{Open};
-ghost use Rattle.season_replay.specs.Yards.{takes, Carried};
+ghost use Rattle.history.specs.declared.calls.Call.TheVariants.{Reads, Writes, Seal};
+ghost use Rattle.history.specs.Calls.{in_form};
+ghost use Rattle.season.specs.Held.{left_in};
+ghost use Rattle.season_log.specs.declared.answers.Reply.TheVariants.{Answered};
+ghost use Rattle.season_replay.specs.Yards.{takes, replied, Carried};
 
-use crate::calls::{read, write};
 use clock::{Clock, Fault};
+use history::{Answer, Call, Reading, Writing};
 use payload::Payload;
 use season::Season;
-use season_log::{Answer, Call, Mistake};
-use yard::{OpenCard, SealedCard};
+use season_log::{Buffer, Mistake, Reply};
+use yard::{Card, OpenCard, SealedCard};
 
 /// A season of one clock kind and one payload kind, open or sealed.
 #[derive(Drop)]
@@ -17,8 +21,8 @@ pub enum Yard<C: Clock, P: Payload> {
     Sealed(Season<SealedCard, C, P>),
 }
 
-/// What a call is answered: an answer, or a refusal.
-pub type Answered<C> = Result<Answer<<C as Clock>::Pen, C>, Fault>;
+/// What a call is answered: a reply, or a refusal.
+pub type Answered<C> = Result<Reply<<C as Clock>::Pen, C>, Fault>;
 
 impl<C: Clock, P: Payload> Yard<C, P> {
     /// Carries out the call of this name: the yard that it leaves, and what it is
@@ -60,7 +64,52 @@ fn in_open<C: Clock, P: Payload>(
     let answer = match call {
         Call::Reads(call) => read(&season, call),
         Call::Writes(call) => write(&mut season, call),
-        Call::Seal => return (Yard::Sealed(season.seal()), Ok(Answer::Done)),
+        Call::Seal => return seal(season),
     };
     (Yard::Open(season), answer)
+}
+
+fn read<K: Card, C: Clock, P: Payload>(season: &Season<K, C, P>, call: Reading) -> Answered<C>
+    ensures { left_in result season.now [] ≡ replied C.meaning P.same season.now (Reads call) }
+{
+    let mut bytes = [0; 32];
+    let answer = season.read(&mut bytes, call);
+    reply(answer, bytes, season.sizes().files)
+}
+
+fn write<C: Clock, P: Payload>(
+    season: &mut Season<OpenCard, C, P>,
+    call: Writing<P>,
+) -> Answered<C>
+    ensures result { left_in result season.new [] ≡ replied C.meaning P.same season.old (Writes call) }
+    ensures card { season.new.card ≡ season.old.card }
+{
+    let mut bytes = [0; 32];
+    let answer = season.write(&mut bytes, call);
+    reply(answer, bytes, season.sizes().files)
+}
+
+fn seal<C: Clock, P: Payload>(season: Season<OpenCard, C, P>) -> (Yard<C, P>, Answered<C>)
+    ensures { Carried C.meaning P.same (Open season) Seal result.0 result.1 }
+{
+    let files = season.sizes().files;
+    (
+        Yard::Sealed(season.seal()),
+        reply(Ok(Answer::Done), [0; 32], files),
+    )
+}
+
+// The answer with its buffer, of which so many bytes are verdicts.
+fn reply<Q: Copy, C: Copy>(
+    answer: Result<Answer<Q, C>, Fault>,
+    bytes: Buffer,
+    files: usize,
+) -> Result<Reply<Q, C>, Fault>
+    ensures { result ≡ in_form (λ a. Answered a bytes files) answer }
+{
+    answer.map(|answer| Reply::Answered {
+        answer,
+        bytes,
+        files,
+    })
 }

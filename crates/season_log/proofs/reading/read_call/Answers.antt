@@ -1,14 +1,6 @@
-use Rattle.std.proofs.Common.{◌∙◌}
-use Rattle.season_log.proofs.Unread.{told, number_unread, payload_unread}
+-- What was read is the call that is spelled: the words spell one call, and no mistake.
+use Rattle.season_log.proofs.Complete.{complete}
 use Rattle.season_log.proofs.reading.read_call.Goals as goal
 
-pub returns-in_err-numbers-clause-refused : goal.returns-in_err-numbers-clause-refused
-returns-in_err-numbers-clause-refused g c =
-    told c.from_residual.result _ _ c.from_residual.ensures.1
-    (number_unread {P = g.row.P.Denot} g.P.FromStr.from_str_gives g.bound-2.from_gives _ _ _ c.in-Some.ensures.found (c.if-arguments-word_count.false ∙ c.word_count.ensures) _ _ c.split_at.ensures.front c.in_err-numbers.ensures.refused)
-
-pub returns-in_err-read_payload-in-len1-clause-refused : goal.returns-in_err-read_payload-in-len1-clause-refused
-returns-in_err-read_payload-in-len1-clause-refused g c =
-    told c.from_residual-in_err-read_payload-in-len1.result _ _ c.from_residual-in_err-read_payload-in-len1.ensures.1
-    (payload_unread {P = g.row.P.Denot} g.P.FromStr.from_str_gives g.bound-2.from_gives _ _ _ c.in-Some.ensures.found (c.if-arguments-word_count.false ∙ c.word_count.ensures) _ _ _ _ _ c.split_at.ensures.front c.split_at.ensures.back c.in-len1.len_at_least c.in_ok-numbers.ensures.read
-    c.in_err-read_payload-in-len1.ensures.refused)
+pub returns-clause-complete : goal.returns-clause-complete
+returns-clause-complete g c = complete _ _ c.args.name c.args.arguments.now c.spelled_call.result c.spelled_call.ensures.read c.spelled_call.ensures.refused

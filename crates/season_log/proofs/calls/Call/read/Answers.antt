@@ -1,6 +1,0 @@
--- What was read is the call that is spelled: the words spell one call, and no mistake.
-use Rattle.season_log.proofs.Complete.{complete}
-use Rattle.season_log.proofs.calls.Call.read.Goals as goal
-
-pub returns-clause-complete : goal.returns-clause-complete
-returns-clause-complete g c = complete _ _ c.args.name c.args.arguments.now c.read_call.result c.read_call.ensures.read c.read_call.ensures.refused
