@@ -39,8 +39,10 @@ fn highest_branch(e: Tree) -> u16
 // lower branch, which starts at 1, and the other the upper.
 fn raise(out: &mut [Node], at: usize, by: usize)
     requires { (at < length out.old) × (by < length out.old) }
-    ensures lower { (end c : ℕ) (r : Event) → at ≡ 1 → Laid out.old by end (leaf c) r → Laid out.new by end (leaf (max c (base_of r))) r }
-    ensures upper { (end c : ℕ) (l : Event) → by ≡ 1 → Laid out.old at end l (leaf c) → Laid out.new at end l (leaf (max c (base_of l))) }
+    ensures lower { (end c : ℕ) (r : Event) → at ≡ 1 → Laid out.old by end (leaf c) r →
+        Laid out.new by end (leaf (max c (base_of r))) r }
+    ensures upper { (end c : ℕ) (l : Event) → by ≡ 1 → Laid out.old at end l (leaf c) →
+        Laid out.new at end l (leaf (max c (base_of l))) }
     ensures long { length out.new ≡ length out.old }
 {
     let x = out[at];
