@@ -34,10 +34,12 @@ pub record GrowRules : Type 0 where
   pub upper_0 : (l : Id) (n c : ℕ) (a b g : Event) → is_off l ≡ false → Grows l a g c →
       Grows (pair l off) (node n a b) (node n g b) (c + 1)
   -- neither side is 0: the lower where it costs less, else the upper
-  pub lower_cheaper : (l r : Id) (n c d : ℕ) (a b g h : Event) → is_off l ≡ false → is_off r ≡ false →
-      Grows l a g c → Grows r b h d → c < d → Grows (pair l r) (node n a b) (node n g b) (c + 1)
-  pub upper_else : (l r : Id) (n c d : ℕ) (a b g h : Event) → is_off l ≡ false → is_off r ≡ false →
-      Grows l a g c → Grows r b h d → d ≤ c → Grows (pair l r) (node n a b) (node n a h) (d + 1)
+  pub lower_cheaper : (l r : Id) (n c d : ℕ) (a b g h : Event) →
+      is_off l ≡ false → is_off r ≡ false → Grows l a g c → Grows r b h d → c < d →
+      Grows (pair l r) (node n a b) (node n g b) (c + 1)
+  pub upper_else : (l r : Id) (n c d : ℕ) (a b g h : Event) →
+      is_off l ≡ false → is_off r ≡ false → Grows l a g c → Grows r b h d → d ≤ c →
+      Grows (pair l r) (node n a b) (node n a h) (d + 1)
 
 pub record EventRules : Type 0 where
   pub fills : (i : Id) (e : Event) → (fill i e ≢ e) → event i e ≡ fill i e
