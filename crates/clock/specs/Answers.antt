@@ -4,12 +4,12 @@
 -- first ds       the first cause of a list that is due
 -- fault_of c     a refusal with no place yet
 -- answered d x   the refusal where a cause is due, else x
-use Rattle.std.specs.Prelude.{Bool, cond, List, [], ◌∷◌, Some, None, Ok, Err, Option, Result}
+use Rattle.std.specs.Prelude.{Bool, if◌then◌else◌, List, [], ◌∷◌, Some, None, Ok, Err, Option, Result}
 use Rattle.clock.specs.declared.causes.Cause.{Cause}
 use Rattle.clock.specs.declared.faults.Fault.{Fault}
 
 abbrev pub due : {X : Type 0} → Bool → X → Option X
-due t c = cond t (Some c) None
+due t c = if t then Some c else None
 
 abbrev pub first : {X : Type 0} → List (Option X) → Option X
 first [] = None

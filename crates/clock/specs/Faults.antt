@@ -12,4 +12,7 @@ place_text words None = []
 place_text words (Some place) = words ++ decimal place
 
 abbrev pub fault_text : Fault → List ℕ
-fault_text f = codes "refused " ++ (decimal (number_of f.cause) ++ (place_text (codes " berth ") f.berth ++ place_text (codes " file ") f.file))
+fault_text f =
+    codes "refused "
+    ++ (decimal (number_of f.cause)
+    ++ (place_text (codes " berth ") f.berth ++ place_text (codes " file ") f.file))

@@ -21,7 +21,8 @@ module _ {Pen Clock : Type 0} (m : Meaning Pen Clock) where
   Overlap p q = (line : ℕ) × (step : ℕ) × Yes (m.makes p line step) × Yes (m.makes q line step)
 
   abbrev pub Together : Pen → Pen → Pen → Type 0
-  Together p q r = (line step : ℕ) → m.makes p line step ≡ (m.makes q line step || m.makes r line step)
+  Together p q r =
+      (line step : ℕ) → m.makes p line step ≡ (m.makes q line step || m.makes r line step)
 
   abbrev pub Within : Clock → Clock → Type 0
   Within c d = (line step : ℕ) → Yes (m.knows c line step) → Yes (m.knows d line step)
@@ -55,7 +56,9 @@ module _ {Pen Clock : Type 0} (m : Meaning Pen Clock) where
     pub forks : m.fork_due m.seed ≡ None
     pub first_event : m.event_due (m.halves m.seed).0 m.blank ≡ None
     pub second_event : m.event_due (m.halves m.seed).1 m.blank ≡ None
-    pub joins : m.join_due (m.evented (m.halves m.seed).0 m.blank) (m.evented (m.halves m.seed).1 m.blank) ≡ None
+    pub joins :
+        m.join_due (m.evented (m.halves m.seed).0 m.blank) (m.evented (m.halves m.seed).1 m.blank)
+        ≡ None
 
   pub record Sound : Type 0 where
     pub seed_made : Yes (m.pen_made m.seed)
@@ -63,15 +66,26 @@ module _ {Pen Clock : Type 0} (m : Meaning Pen Clock) where
     pub blank_made : Yes (m.clock_made m.blank)
     pub no_pen_makes : (l s : ℕ) → m.makes m.no_pen l s ≡ false
     pub blank_knows : (l s : ℕ) → m.knows m.blank l s ≡ false
-    pub fork : (p : Pen) → Yes (m.pen_made p) → m.fork_due p ≡ None → Forked p (m.halves p).0 (m.halves p).1
-    pub fork_cause : (p : Pen) (c : Cause) → Yes (m.pen_made p) → m.fork_due p ≡ Some c → c ≡ CannotSplit
-    pub event : (p : Pen) (c : Clock) → Yes (m.pen_made p) → Yes (m.clock_made c) → m.event_due p c ≡ None → Evented p c (m.evented p c)
-    pub event_cause : (p : Pen) (c : Clock) (e : Cause) → Yes (m.pen_made p) → Yes (m.clock_made c) → m.event_due p c ≡ Some e → (e ≡ PenSpent) ⊎ ((e ≡ ClockTooLarge) ⊎ (e ≡ AtLimit))
-    pub join : (c d : Clock) → Yes (m.clock_made c) → Yes (m.clock_made d) → m.join_due c d ≡ None → Joined c d (m.joined c d)
-    pub join_cause : (c d : Clock) (e : Cause) → Yes (m.clock_made c) → Yes (m.clock_made d) → m.join_due c d ≡ Some e → e ≡ ClockTooLarge
-    pub covers : (c d : Clock) → Yes (m.clock_made c) → Yes (m.clock_made d) → Yes (m.covers c d) ↔ Within d c
-    pub unite : (p q : Pen) → Yes (m.pen_made p) → Yes (m.pen_made q) → m.unite_due p q ≡ None → United p q (m.united p q)
-    pub unite_cause : (p q : Pen) (c : Cause) → Yes (m.pen_made p) → Yes (m.pen_made q) → m.unite_due p q ≡ Some c → (c ≡ PensOverlap) ⊎ (c ≡ PenTooLarge)
+    pub fork : (p : Pen) → Yes (m.pen_made p) → m.fork_due p ≡ None →
+        Forked p (m.halves p).0 (m.halves p).1
+    pub fork_cause : (p : Pen) (c : Cause) → Yes (m.pen_made p) → m.fork_due p ≡ Some c →
+        c ≡ CannotSplit
+    pub event : (p : Pen) (c : Clock) → Yes (m.pen_made p) → Yes (m.clock_made c) →
+        m.event_due p c ≡ None → Evented p c (m.evented p c)
+    pub event_cause :
+        (p : Pen) (c : Clock) (e : Cause) → Yes (m.pen_made p) → Yes (m.clock_made c) →
+        m.event_due p c ≡ Some e → (e ≡ PenSpent) ⊎ ((e ≡ ClockTooLarge) ⊎ (e ≡ AtLimit))
+    pub join : (c d : Clock) → Yes (m.clock_made c) → Yes (m.clock_made d) →
+        m.join_due c d ≡ None → Joined c d (m.joined c d)
+    pub join_cause : (c d : Clock) (e : Cause) → Yes (m.clock_made c) → Yes (m.clock_made d) →
+        m.join_due c d ≡ Some e → e ≡ ClockTooLarge
+    pub covers : (c d : Clock) → Yes (m.clock_made c) → Yes (m.clock_made d) →
+        Yes (m.covers c d) ↔ Within d c
+    pub unite : (p q : Pen) → Yes (m.pen_made p) → Yes (m.pen_made q) →
+        m.unite_due p q ≡ None → United p q (m.united p q)
+    pub unite_cause : (p q : Pen) (c : Cause) → Yes (m.pen_made p) → Yes (m.pen_made q) →
+        m.unite_due p q ≡ Some c → (c ≡ PensOverlap) ⊎ (c ≡ PenTooLarge)
     -- 12 exactly where the pens have a mark in common
-    pub overlap : (p q : Pen) → Yes (m.pen_made p) → Yes (m.pen_made q) → (m.unite_due p q ≡ Some PensOverlap) ↔ Overlap p q
+    pub overlap : (p q : Pen) → Yes (m.pen_made p) → Yes (m.pen_made q) →
+        (m.unite_due p q ≡ Some PensOverlap) ↔ Overlap p q
     pub opening : Opening

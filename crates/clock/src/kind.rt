@@ -39,12 +39,14 @@ pub trait Clock: Copy {
     /// A clock that knows this one's marks and at least one more of the pen's. Refused with 14 to 16.
     fn event(&self, pen: &Self::Pen) -> Result<Self, Fault>
         requires { (Yes (meaning.clock_made self.now)) × (Yes (meaning.pen_made pen.now)) }
-        ensures { result ≡ answered (meaning.event_due pen.now self.now) (meaning.evented pen.now self.now) };
+        ensures { result ≡
+            answered (meaning.event_due pen.now self.now) (meaning.evented pen.now self.now) };
 
     /// A clock that knows exactly what either knows. Refused with 15.
     fn join(&self, other: &Self) -> Result<Self, Fault>
         requires { (Yes (meaning.clock_made self.now)) × (Yes (meaning.clock_made other.now)) }
-        ensures { result ≡ answered (meaning.join_due self.now other.now) (meaning.joined self.now other.now) };
+        ensures { result ≡
+            answered (meaning.join_due self.now other.now) (meaning.joined self.now other.now) };
 
     /// Whether this clock knows every mark of the other.
     fn covers(&self, other: &Self) -> bool
@@ -54,12 +56,14 @@ pub trait Clock: Copy {
     /// A pen with exactly the marks of both. Refused with 12 and 13.
     fn unite(pen: &Self::Pen, other: &Self::Pen) -> Result<Self::Pen, Fault>
         requires { (Yes (meaning.pen_made pen.now)) × (Yes (meaning.pen_made other.now)) }
-        ensures { result ≡ answered (meaning.unite_due pen.now other.now) (meaning.united pen.now other.now) };
+        ensures { result ≡
+            answered (meaning.unite_due pen.now other.now) (meaning.united pen.now other.now) };
 
     /// The verdict on this clock against the other, from covers both ways.
     fn compare(&self, other: &Self) -> Verdict
         requires { (Yes (meaning.clock_made self.now)) × (Yes (meaning.clock_made other.now)) }
-        ensures { result ≡ verdict_of (meaning.covers self.now other.now) (meaning.covers other.now self.now) }
+        ensures { result ≡
+            verdict_of (meaning.covers self.now other.now) (meaning.covers other.now self.now) }
     {
         Verdict::of(self.covers(other), other.covers(self))
     }

@@ -13,7 +13,7 @@
 -- both_pens p q         the pen with the lines of both
 -- fork_due, event_due, unite_due
 --                       the cause with which the operation is refused, if any
-use Rattle.std.specs.Prelude.{ℕ, zero, suc, ◌+◌, max, Bool, false, cond, not, ◌&&◌, ◌||◌, [], ◌∷◌, Option, nat_lt, nat_le}
+use Rattle.std.specs.Prelude.{ℕ, zero, suc, ◌+◌, max, Bool, false, if◌then◌else◌, not, ◌&&◌, ◌||◌, [], ◌∷◌, Option, nat_lt, nat_le}
 use Rattle.clock.specs.declared.causes.Cause.{Cause}
 use Rattle.clock.specs.declared.causes.Cause.TheVariants.{CannotSplit, PensOverlap, PenSpent, AtLimit}
 use Rattle.clock.specs.Answers.{due, first}
@@ -44,10 +44,11 @@ abbrev pub free : PairPen → PairClock → ℕ → Bool
 free p c x = has p x && nat_lt (count c x) 65535
 
 abbrev pub event_due : PairPen → PairClock → Option Cause
-event_due p c = first (due (not (p.ship || p.launch)) PenSpent ∷ due (not (free p c 0 || free p c 1)) AtLimit ∷ [])
+event_due p c =
+    first (due (not (p.ship || p.launch)) PenSpent ∷ due (not (free p c 0 || free p c 1)) AtLimit ∷ [])
 
 abbrev pub raised : PairPen → PairClock → PairClock
-raised p c = cond (free p c 0) (counts (c.ship + 1) c.launch) (counts c.ship (c.launch + 1))
+raised p c = if free p c 0 then counts (c.ship + 1) c.launch else counts c.ship (c.launch + 1)
 
 abbrev pub larger : PairClock → PairClock → PairClock
 larger c d = counts (max c.ship d.ship) (max c.launch d.launch)

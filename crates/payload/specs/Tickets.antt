@@ -13,7 +13,7 @@
 -- ReadBack t        the word that t prints stands for t
 -- same_below k a b  the first k bytes of two digests are the same
 -- same_ticket t u   all 32 bytes and the length are the same
-use Rattle.std.specs.Prelude.{◌≡◌, ℕ, zero, suc, ◌+◌, ◌-◌, ◌*◌, ◌/◌, ◌%◌, Bool, true, false, cond, ◌&&◌, List, [], ◌∷◌, ◌++◌, codes, length, map, Ok, Err, Result, is_ok, ◌==◌, nat_lt, nat_le, slice_index}
+use Rattle.std.specs.Prelude.{◌≡◌, ℕ, zero, suc, ◌+◌, ◌-◌, ◌*◌, ◌/◌, ◌%◌, Bool, true, false, if◌then◌else◌, ◌&&◌, List, [], ◌∷◌, ◌++◌, codes, length, map, Ok, Err, Result, is_ok, ◌==◌, nat_lt, nat_le, slice_index}
 use Rattle.std.specs.Fmt.{decimal, digit_glyph}
 use Rattle.std.specs.List.{list_all, flat_map, range_with_len, position_or_len, before_first, after_first}
 use Rattle.std.specs.Result.{result_unwrap_or}
@@ -28,7 +28,10 @@ abbrev pub ticket_of : List ℕ → ℕ → Ticket
 ticket_of d n = record { digest = d; length = n }
 
 abbrev pub hex_digit : ℕ → Result ℕ TicketError
-hex_digit c = cond (nat_le 48 c && nat_le c 57) (Ok (c - 48)) (cond (nat_le 97 c && nat_le c 102) (Ok (c - 97 + 10)) (Err NotDigest))
+hex_digit c =
+    if nat_le 48 c && nat_le c 57
+    then Ok (c - 48)
+    else (if nat_le 97 c && nat_le c 102 then Ok (c - 97 + 10) else Err NotDigest)
 
 abbrev pub is_hex_digit : ℕ → Bool
 is_hex_digit c = is_ok (hex_digit c)
@@ -40,13 +43,17 @@ abbrev pub byte_at : List ℕ → ℕ → ℕ
 byte_at ds k = 16 * digit_at ds (2 * k) + digit_at ds (2 * k + 1)
 
 unfoldable pub digest_of : List ℕ → Result (List ℕ) TicketError
-digest_of ds = cond (length ds == 64 && list_all is_hex_digit ds) (Ok (map (byte_at ds) (range_with_len 0 32))) (Err NotDigest)
+digest_of ds =
+    if length ds == 64 && list_all is_hex_digit ds
+    then Ok (map (byte_at ds) (range_with_len 0 32))
+    else Err NotDigest
 
 abbrev pub length_refusal : DecimalError → TicketError
 length_refusal decimal.NotNumber = NotNumber
 length_refusal decimal.OutOfRange = OutOfRange
 
-abbrev pub ticket_parts : Result (List ℕ) TicketError → Result ℕ DecimalError → Result Ticket TicketError
+abbrev pub ticket_parts :
+    Result (List ℕ) TicketError → Result ℕ DecimalError → Result Ticket TicketError
 ticket_parts (Ok d) (Ok n) = Ok (ticket_of d n)
 ticket_parts (Ok d) (Err e) = Err (length_refusal e)
 ticket_parts (Err e) n = Err e
@@ -58,7 +65,10 @@ abbrev pub has_colon : List ℕ → Bool
 has_colon w = nat_lt (position_or_len is_colon w) (length w)
 
 abbrev pub ticket_word : List ℕ → Result Ticket TicketError
-ticket_word w = cond (has_colon w) (ticket_parts (digest_of (before_first is_colon w)) (decimal_of (after_first is_colon w))) (Err NoColon)
+ticket_word w =
+    if has_colon w
+    then ticket_parts (digest_of (before_first is_colon w)) (decimal_of (after_first is_colon w))
+    else Err NoColon
 
 abbrev pub byte_text : ℕ → List ℕ
 byte_text b = digit_glyph false (b / 16) ∷ digit_glyph false (b % 16) ∷ []

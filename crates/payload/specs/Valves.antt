@@ -10,7 +10,7 @@
 -- ReadBack v                  the word that v prints stands for v
 -- case_number c               the number of a case
 -- same_valve v w              the case and the number are the same
-use Rattle.std.specs.Prelude.{◌≡◌, ℕ, Bool, cond, ◌&&◌, List, ◌++◌, take, drop, Ok, Err, codes, Result, ◌==◌, nat_le}
+use Rattle.std.specs.Prelude.{◌≡◌, ℕ, Bool, if◌then◌else◌, ◌&&◌, List, ◌++◌, take, drop, Ok, Err, codes, Result, ◌==◌, nat_le}
 use Rattle.std.specs.Fmt.{decimal}
 use Rattle.std.specs.Str.{bytes_eq}
 use Rattle.payload.specs.declared.decimals.DecimalError.{DecimalError}
@@ -31,10 +31,10 @@ abbrev pub open_valve : Valve
 open_valve = record { 0 = state.Open }
 
 abbrev pub part_valve : ℕ → Result Valve ValveError
-part_valve n = cond (nat_le 1 n && nat_le n 99) (Ok (record { 0 = state.Part n })) (Err PartRange)
+part_valve n = if nat_le 1 n && nat_le n 99 then Ok (record { 0 = state.Part n }) else Err PartRange
 
 abbrev pub flow_valve : ℕ → Result Valve ValveError
-flow_valve n = cond (nat_le n 9999) (Ok (record { 0 = state.Flow n })) (Err FlowRange)
+flow_valve n = if nat_le n 9999 then Ok (record { 0 = state.Flow n }) else Err FlowRange
 
 abbrev pub case_in : State → Case
 case_in state.Shut = Shut
@@ -75,11 +75,11 @@ flow_word w = made flow_valve (number_word FlowRange w)
 
 abbrev pub valve_word : List ℕ → Result Valve ValveError
 valve_word w =
-    cond (bytes_eq w (codes "shut")) (Ok shut_valve)
-    (cond (bytes_eq w (codes "open")) (Ok open_valve)
-    (cond (bytes_eq (take 5 w) (codes "part:")) (part_word (drop 5 w))
-    (cond (bytes_eq (take 5 w) (codes "flow:")) (flow_word (drop 5 w))
-    (Err UnknownWord))))
+    if bytes_eq w (codes "shut") then Ok shut_valve else
+    (if bytes_eq w (codes "open") then Ok open_valve else
+    (if bytes_eq (take 5 w) (codes "part:") then part_word (drop 5 w) else
+    (if bytes_eq (take 5 w) (codes "flow:") then flow_word (drop 5 w) else
+    Err UnknownWord)))
 
 abbrev pub state_text : State → List ℕ
 state_text state.Shut = codes "shut"

@@ -138,7 +138,9 @@ impl Payload for Ticket {
 
     ghost reflexive = { λ t. (decides_ticket t t).1 (λ k h. refl, refl) };
 
-    ghost symmetric = { λ t u e. let s = (decides_ticket t u).0 e in (decides_ticket u t).1 (λ k h. sym (s.0 k h), sym s.1) };
+    ghost symmetric = { λ t u e.
+        let s = (decides_ticket t u).0 e in
+        (decides_ticket u t).1 (λ k h. sym (s.0 k h), sym s.1) };
 
     ghost transitive = { λ t u v e f.
         let s = (decides_ticket t u).0 e in

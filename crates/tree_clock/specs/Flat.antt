@@ -26,7 +26,9 @@ abbrev pub Flat : List Node → Type 0
 Flat s = (e : Event) × (s ≡ flat e)
 
 abbrev pub Laid : List Node → ℕ → ℕ → Event → Event → Type 0
-Laid o mid end l r = (x : Node) × (rest : List Node) × (o ≡ x ∷ (flat l ++ (flat r ++ rest))) × (mid ≡ 1 + size l) × (end ≡ mid + size r)
+Laid o mid end l r =
+    (x : Node) × (rest : List Node) × (o ≡ x ∷ (flat l ++ (flat r ++ rest)))
+    × (mid ≡ 1 + size l) × (end ≡ mid + size r)
 
 abbrev pub Stands : List Node → ℕ → Event → Type 0
 Stands o n e = (take n o ≡ flat e) × (n ≡ size e)

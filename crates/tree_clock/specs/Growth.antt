@@ -19,4 +19,5 @@ pub record Growth (n up : ℕ) (i : Id) (e : Event) (m : ℕ) : Type 0 where
   pub short : m ≤ 1000
 
 abbrev pub past_limits : Event → Option Cause
-past_limits g = first (due (nat_lt 63 (size g)) ClockTooLarge ∷ due (nat_lt 65535 (top g)) AtLimit ∷ [])
+past_limits g =
+    first (due (nat_lt 63 (size g)) ClockTooLarge ∷ due (nat_lt 65535 (top g)) AtLimit ∷ [])

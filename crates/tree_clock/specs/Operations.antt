@@ -21,16 +21,19 @@ use Rattle.tree_clock.specs.declared.pens.TreePen.{TreePen}
 use Rattle.tree_clock.specs.Stored.{id_of, pen_of, event_of, clock_of}
 
 abbrev pub fork_answer : TreePen → Result (TreePen × TreePen) Fault
-fork_answer p = answered (split_due (id_of p)) (pen_of (half false (id_of p)), pen_of (half true (id_of p)))
+fork_answer p =
+    answered (split_due (id_of p)) (pen_of (half false (id_of p)), pen_of (half true (id_of p)))
 
 abbrev pub unite_answer : TreePen → TreePen → Result TreePen Fault
 unite_answer p q = answered (sum_due (id_of p) (id_of q)) (pen_of (sum (id_of p) (id_of q)))
 
 abbrev pub event_answer : TreePen → TreeClock → Result TreeClock Fault
-event_answer p c = answered (grown_due (id_of p) (event_of c)) (clock_of (event (id_of p) (event_of c)))
+event_answer p c =
+    answered (grown_due (id_of p) (event_of c)) (clock_of (event (id_of p) (event_of c)))
 
 abbrev pub join_answer : TreeClock → TreeClock → Result TreeClock Fault
-join_answer c d = answered (joined_due (event_of c) (event_of d)) (clock_of (join (event_of c) (event_of d)))
+join_answer c d =
+    answered (joined_due (event_of c) (event_of d)) (clock_of (join (event_of c) (event_of d)))
 
 abbrev pub covers_answer : TreeClock → TreeClock → Bool
 covers_answer c d = covers_up (event_of c) 0 (event_of d) 0

@@ -8,7 +8,8 @@ use Rattle.tree_clock.specs.Flat.{Laid}
 use Rattle.tree_clock.specs.declared.nodes.Node.{Node}
 
 abbrev pub Sides : List Node → ℕ → ℕ → Bool → Bool → Event → Event → Type 0
-Sides o mid end s t l r = Laid o mid end l r × Normal l × Normal r × (s ≡ true → size l ≡ 1) × (t ≡ true → size r ≡ 1)
+Sides o mid end s t l r =
+    Laid o mid end l r × Normal l × Normal r × (s ≡ true → size l ≡ 1) × (t ≡ true → size r ≡ 1)
 
 abbrev pub High : ℕ → Event → Event → Type 0
 High n l r = n + max (top l) (top r) ≤ 65535

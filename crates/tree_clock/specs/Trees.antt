@@ -10,7 +10,7 @@
 -- event_code, id_code
 --                 how a proof tells two trees, or two ids, apart
 -- same_event      the test for one tree
-use Rattle.std.specs.Prelude.{◌≡◌, ℕ, zero, suc, ◌+◌, ◌<◌, Bool, true, false, cond, List, [], ◌∷◌, ◌++◌, length, take, drop, ◌==◌, slice_index_or, refl}
+use Rattle.std.specs.Prelude.{if◌then◌else◌, ◌≡◌, ℕ, zero, suc, ◌+◌, ◌<◌, Bool, true, false, List, [], ◌∷◌, ◌++◌, length, take, drop, ◌==◌, slice_index_or, refl}
 use Rattle.std.specs.Cmp.Lexicographic.{pointwise}
 use Rattle.std.specs.Ordering.{eq_of_both, on as on_part}
 use Rattle.std.specs.Coded.{Coded, coded×, coded_ℕ, coded_list, code_by}
@@ -33,10 +33,13 @@ front_size s = (slice_index_or s 0 filler).size
 abbrev pub read : ℕ → List Node → Event
 read zero s = leaf 0
 read (suc k) [] = leaf 0
-read (suc k) (x ∷ s) = cond (x.size == 1) (leaf x.base) (node x.base (read k (take (front_size s) s)) (read k (drop (front_size s) s)))
+read (suc k) (x ∷ s) =
+    if x.size == 1
+    then leaf x.base
+    else node x.base (read k (take (front_size s) s)) (read k (drop (front_size s) s))
 
 abbrev pub as_id : Event → Id
-as_id (leaf n) = cond (n == 0) off on
+as_id (leaf n) = if n == 0 then off else on
 as_id (node n l r) = pair (as_id l) (as_id r)
 
 -- a tree has fewer levels than nodes

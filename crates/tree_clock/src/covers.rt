@@ -31,9 +31,11 @@ pub(crate) fn covers_from(a: Tree, up_a: u16, b: Tree, up_b: u16) -> bool
 // The same for the branches of a triple, the sums at the roots being `at_a` and `at_b`.
 #[cycle(covers_from_covers_branches)]
 fn covers_branches(a: Tree, at_a: u16, b: Tree, at_b: u16) -> bool
-    requires below { (at_a + max (top (lo a)) (top (hi a)) ≤ 65535) × (at_b + max (top (lo b)) (top (hi b)) ≤ 65535) }
+    requires below { (at_a + max (top (lo a)) (top (hi a)) ≤ 65535)
+        × (at_b + max (top (lo b)) (top (hi b)) ≤ 65535) }
     requires triple { leaf_test b ≡ false }
-    ensures { result ≡ (fits_up (lo a.entry) at_a (lo b.entry) at_b && fits_up (hi a.entry) at_a (hi b.entry) at_b) }
+    ensures { result ≡
+        (fits_up (lo a.entry) at_a (lo b.entry) at_b && fits_up (hi a.entry) at_a (hi b.entry) at_b) }
 {
     if !covers_from(a.lower(), at_a, b.lower_branch(), at_b) {
         return false;

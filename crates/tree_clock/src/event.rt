@@ -67,7 +67,8 @@ impl TreeClock {
 fn grown(id: IdTree, e: Tree, made: &mut TreeClock) -> Option<Cause>
     requires id { NormalId id × (id_depth id ≤ 12) × (is_off id ≡ false) }
     requires tree { (size_of e ≤ 63) × (top e ≤ 65535) }
-    ensures { answered result made.new ≡ answered (past_limits (grow_of id.entry e.entry)) (clock_of (grow_of id.entry e.entry)) }
+    ensures { answered result made.new ≡
+        answered (past_limits (grow_of id.entry e.entry)) (clock_of (grow_of id.entry e.entry)) }
 {
     let mut out: [Node; ROOM] = fillers();
     let (n, value) = grow_leaf(id, e, 0, 12, &mut out);

@@ -39,8 +39,10 @@ fn highest_branch(e: Tree) -> u16
 // lower branch, which starts at 1, and the other the upper.
 fn raise(out: &mut [Node], at: usize, by: usize)
     requires { (at < length out.old) × (by < length out.old) }
-    ensures lower { (end c : ℕ) (r : Event) → at ≡ 1 → Laid out.old by end (leaf c) r → Laid out.new by end (leaf (max c (base_of r))) r }
-    ensures upper { (end c : ℕ) (l : Event) → by ≡ 1 → Laid out.old at end l (leaf c) → Laid out.new at end l (leaf (max c (base_of l))) }
+    ensures lower { (end c : ℕ) (r : Event) → at ≡ 1 → Laid out.old by end (leaf c) r →
+        Laid out.new by end (leaf (max c (base_of r))) r }
+    ensures upper { (end c : ℕ) (l : Event) → by ≡ 1 → Laid out.old at end l (leaf c) →
+        Laid out.new at end l (leaf (max c (base_of l))) }
     ensures long { length out.new ≡ length out.old }
 {
     let x = out[at];
@@ -54,8 +56,13 @@ fn raise(out: &mut [Node], at: usize, by: usize)
 // Closes the triple of `base` and two filled branches, as the side of the id that is 1 asks.
 fn fill_close(id: &IdTree, base: u16, mid: usize, end: usize, out: &mut [Node]) -> usize
     requires pair { leaf_test (shape id.now) ≡ false }
-    requires given { (l r : Event) × Sides out.old mid end (is_on (id_lo id.now)) (is_on (id_hi id.now)) l r × High base l r × (end ≤ 65535) }
-    ensures stands { (l r : Event) → Sides out.old mid end (is_on (id_lo id.now)) (is_on (id_hi id.now)) l r → Stands out.new result (filled (is_on (id_lo id.now)) (is_on (id_hi id.now)) base l r l r) }
+    requires given { (l r : Event)
+        × Sides out.old mid end (is_on (id_lo id.now)) (is_on (id_hi id.now)) l r
+        × High base l r × (end ≤ 65535) }
+    ensures stands { (l r : Event) →
+        Sides out.old mid end (is_on (id_lo id.now)) (is_on (id_hi id.now)) l r →
+        Stands out.new result
+        (filled (is_on (id_lo id.now)) (is_on (id_hi id.now)) base l r l r) }
     ensures long { length out.new ≡ length out.old }
 {
     if id.lower_side().is_one() {

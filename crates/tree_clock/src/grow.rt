@@ -38,7 +38,8 @@ pub(crate) fn growth_cost(id: IdTree, e: Tree, left: u8) -> u32
 #[tactic(auto, using(crate::proofs::GrowCost::costs))]
 fn lower_grows(id: &IdTree, e: &Tree, left: u8) -> bool
     requires { (id_depth id.now ≤ left) × (leaf_test (shape id.now) ≡ false) }
-    ensures { result ≡ lowers (is_off (id_lo id.now)) (is_off (id_hi id.now)) (cost (id_lo id.now) (lo e.now)) (cost (id_hi id.now) (hi e.now)) }
+    ensures { result ≡ lowers (is_off (id_lo id.now)) (is_off (id_hi id.now))
+        (cost (id_lo id.now) (lo e.now)) (cost (id_hi id.now) (hi e.now)) }
 {
     if id.lower().is_zero() {
         return false;

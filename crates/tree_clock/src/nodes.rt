@@ -70,7 +70,8 @@ pub(crate) fn leaf_into(value: u16, out: &mut [Node]) -> usize
 // Writes the root over two branches that lie in `out` up to `end`, and answers the size.
 pub(crate) fn root_into(base: u16, out: &mut [Node], end: usize) -> usize
     requires { (0 < length out.old) × (end ≤ 65535) }
-    ensures stands { (mid : ℕ) (l r : Event) → Laid out.old mid end l r → Stands out.new result (node base l r) }
+    ensures stands { (mid : ℕ) (l r : Event) → Laid out.old mid end l r →
+        Stands out.new result (node base l r) }
     ensures size { result ≡ end }
     ensures rest { 0 < end → drop end out.new ≡ drop end out.old }
     ensures long { length out.new ≡ length out.old }

@@ -7,8 +7,10 @@ use crate::nodes::Node;
 // Puts the triple of `base` and two branches that lie in `out`, the lower up to
 // `mid` and the upper up to `end`, into normal form, in place, and answers its size.
 pub(crate) fn close(out: &mut [Node], base: u16, mid: usize, end: usize) -> usize
-    requires { (l r : Event) × Laid out.old mid end l r × Normal l × Normal r × (base + top l ≤ 65535) × (end ≤ 65535) }
-    ensures stands { (l r : Event) → Laid out.old mid end l r → Normal l → Normal r → Stands out.new result (norm_of base l r) }
+    requires { (l r : Event) × Laid out.old mid end l r × Normal l × Normal r
+        × (base + top l ≤ 65535) × (end ≤ 65535) }
+    ensures stands { (l r : Event) → Laid out.old mid end l r → Normal l → Normal r →
+        Stands out.new result (norm_of base l r) }
     ensures long { length out.new ≡ length out.old }
 {
     let (l, u) = (out[1], out[mid]);

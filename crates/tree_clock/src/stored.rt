@@ -41,7 +41,8 @@ impl Stored {
 
     // The tree that is stored.
     pub(crate) fn tree(&self) -> Tree
-        requires { (self.now.nodes ≡ stored (held self.now.nodes)) × (size_of (held self.now.nodes) ≤ 63) }
+        requires { (self.now.nodes ≡ stored (held self.now.nodes))
+            × (size_of (held self.now.nodes) ≤ 63) }
         ensures { result ≡ held self.now.nodes }
     {
         let nodes = &self.nodes;

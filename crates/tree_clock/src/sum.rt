@@ -19,7 +19,9 @@ use crate::norm::close;
 pub(crate) fn sum_into(a: IdTree, b: IdTree, out: &mut [Node]) -> Option<usize>
     requires normal { (NormalId a) × (NormalId b) }
     requires room { (id_size a + id_size b ≤ length out.old + 1) × (id_size a + id_size b ≤ 1000) }
-    ensures sum { MatchOption result (overlap a.entry b.entry ≡ true) (λ n. (overlap a.entry b.entry ≡ false) × Stands out.new n (shape (sum a.entry b.entry))) }
+    ensures sum { MatchOption result
+        (overlap a.entry b.entry ≡ true)
+        (λ n. (overlap a.entry b.entry ≡ false) × Stands out.new n (shape (sum a.entry b.entry))) }
     ensures long { length out.new ≡ length out.old }
 {
     if a.is_zero() {
@@ -42,7 +44,9 @@ fn sum_pairs(a: IdTree, b: IdTree, out: &mut [Node]) -> Option<usize>
     requires normal { (NormalId a) × (NormalId b) }
     requires room { (id_size a + id_size b ≤ length out.old + 1) × (id_size a + id_size b ≤ 1000) }
     requires pairs { (leaf_test (shape a) ≡ false) × (leaf_test (shape b) ≡ false) }
-    ensures sum { MatchOption result (overlap a.entry b.entry ≡ true) (λ n. (overlap a.entry b.entry ≡ false) × Stands out.new n (shape (sum a.entry b.entry))) }
+    ensures sum { MatchOption result
+        (overlap a.entry b.entry ≡ true)
+        (λ n. (overlap a.entry b.entry ≡ false) × Stands out.new n (shape (sum a.entry b.entry))) }
     ensures long { length out.new ≡ length out.old }
 {
     let mid = 1 + sum_into(a.lower_side(), b.lower_side(), &mut out[1..])?;

@@ -9,7 +9,7 @@
 -- norm n l r           the triple (n,l,r) in normal form, its branches being so
 -- Normal               each triple has a branch with low 0 and not two equal leaves; normal is the test
 -- same                 whether two trees are one
-use Rattle.std.specs.Prelude.{◌≡◌, ℕ, zero, suc, ◌+◌, ◌-◌, ◌^◌, min, max, Bool, true, false, cond, not, ◌&&◌, ◌==◌, nat_lt}
+use Rattle.std.specs.Prelude.{◌≡◌, ℕ, zero, suc, ◌+◌, ◌-◌, ◌^◌, min, max, Bool, true, false, if◌then◌else◌, not, ◌&&◌, ◌==◌, nat_lt}
 
 pub data Event : Type 0 where
   leaf : ℕ → Event
@@ -26,7 +26,7 @@ depth (node n l r) = 1 + max (depth l) (depth r)
 abbrev pub value : Event → ℕ → ℕ → ℕ
 value (leaf n) h x = n
 value (node n l r) zero x = n
-value (node n l r) (suc h) x = n + cond (nat_lt x (2 ^ h)) (value l h x) (value r h (x - 2 ^ h))
+value (node n l r) (suc h) x = n + (if nat_lt x (2 ^ h) then value l h x else value r h (x - 2 ^ h))
 
 abbrev pub low : Event → ℕ
 low (leaf n) = n
@@ -66,7 +66,7 @@ abbrev pub lifted : ℕ → ℕ → Event → Event → Event
 lifted n m l r = node (n + m) (less m l) (less m r)
 
 unfoldable pub norm : ℕ → Event → Event → Event
-norm n l r = cond (twins l r) (leaf (n + low l)) (lifted n (min (low l) (low r)) l r)
+norm n l r = if twins l r then leaf (n + low l) else lifted n (min (low l) (low r)) l r
 
 abbrev pub Normal : Event → Type 0
 Normal (leaf n) = Unit {0}

@@ -1,5 +1,5 @@
 -- Grow: adds one at one place of the id, where that costs least; and event, which is fill where fill changes the tree, else grow.
-use Rattle.std.specs.Prelude.{ℕ, ◌+◌, Bool, true, false, cond, nat_lt}
+use Rattle.std.specs.Prelude.{ℕ, ◌+◌, Bool, true, false, if◌then◌else◌, nat_lt}
 use Rattle.tree_rules.specs.Ids.{Id, off, on, pair, is_off}
 use Rattle.tree_rules.specs.Events.{Event, leaf, node, base, lo, hi, same}
 use Rattle.tree_rules.specs.Fill.{fill}
@@ -22,12 +22,15 @@ cost on e = 0
 cost (pair l r) e =
     let cl : ℕ = cost l (lo e) in
     let cr : ℕ = cost r (hi e) in
-    cond (lowers (is_off l) (is_off r) cl cr) cl cr + 1 + extra e
+    (if lowers (is_off l) (is_off r) cl cr then cl else cr) + 1 + extra e
 
 unfoldable pub grow : Id → Event → Event
 grow off e = e
 grow on e = leaf (base e + 1)
-grow (pair l r) e = cond (lowers (is_off l) (is_off r) (cost l (lo e)) (cost r (hi e))) (node (base e) (grow l (lo e)) (hi e)) (node (base e) (lo e) (grow r (hi e)))
+grow (pair l r) e =
+    if lowers (is_off l) (is_off r) (cost l (lo e)) (cost r (hi e))
+    then node (base e) (grow l (lo e)) (hi e)
+    else node (base e) (lo e) (grow r (hi e))
 
 unfoldable pub event : Id → Event → Event
-event i e = cond (same (fill i e) e) (grow i e) (fill i e)
+event i e = if same (fill i e) e then grow i e else fill i e

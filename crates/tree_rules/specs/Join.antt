@@ -17,11 +17,14 @@ abbrev pub join_up : Event → ℕ → Event → ℕ → Event
 join_up (leaf m) u f v = join_leaf (m + u) f v
 join_up (node m a b) u f v =
     let k : ℕ = min (m + u) (base f + v) in
-    norm k (join_up a (m + u - k) (lo f) (base f + v - k)) (join_up b (m + u - k) (hi f) (base f + v - k))
+    norm k
+    (join_up a (m + u - k) (lo f) (base f + v - k))
+    (join_up b (m + u - k) (hi f) (base f + v - k))
 
 abbrev pub join : Event → Event → Event
 join e f = join_up e 0 f 0
 
 abbrev pub covers_up : Event → ℕ → Event → ℕ → Bool
 covers_up (leaf m) u f v = nat_le (v + top f) (u + m)
-covers_up (node m a b) u f v = covers_up a (u + m) (lo f) (v + base f) && covers_up b (u + m) (hi f) (v + base f)
+covers_up (node m a b) u f v =
+    covers_up a (u + m) (lo f) (v + base f) && covers_up b (u + m) (hi f) (v + base f)

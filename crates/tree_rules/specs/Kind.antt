@@ -28,7 +28,8 @@ split_due i = due (unsplittable 12 i) CannotSplit
 
 -- 12: some place is 1 in both; 13: more than 63 nodes
 abbrev pub sum_due : Id → Id → Option Cause
-sum_due i j = first (due (overlap i j) PensOverlap ∷ due (nat_lt 63 (id_size (sum i j))) PenTooLarge ∷ [])
+sum_due i j =
+    first (due (overlap i j) PensOverlap ∷ due (nat_lt 63 (id_size (sum i j))) PenTooLarge ∷ [])
 
 -- 15: more than 63 nodes
 abbrev pub joined_due : Event → Event → Option Cause
@@ -36,7 +37,12 @@ joined_due e f = due (nat_lt 63 (size (join e f))) ClockTooLarge
 
 -- 14: the id is 0; 15: more than 63 nodes; 16: a value above 65,535
 abbrev pub grown_due : Id → Event → Option Cause
-grown_due i e = first (due (is_off i) PenSpent ∷ due (nat_lt 63 (size (event i e))) ClockTooLarge ∷ due (nat_lt 65535 (top (event i e))) AtLimit ∷ [])
+grown_due i e =
+    first
+    (due (is_off i) PenSpent
+    ∷ due (nat_lt 63 (size (event i e))) ClockTooLarge
+    ∷ due (nat_lt 65535 (top (event i e))) AtLimit
+    ∷ [])
 
 abbrev pub tree : Meaning Id Event
 tree = record {

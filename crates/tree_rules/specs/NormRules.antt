@@ -16,9 +16,11 @@ TwinLeaves l r = (m : ℕ) × (l ≡ leaf m) × (r ≡ leaf m)
 pub record NormRules : Type 0 where
   pub ids_0 : norm_id off off ≡ off
   pub ids_1 : norm_id on on ≡ on
-  pub other_ids : (l r : Id) → ((l ≡ off) × (r ≡ off) → ⊥) → ((l ≡ on) × (r ≡ on) → ⊥) → norm_id l r ≡ pair l r
+  pub other_ids : (l r : Id) → ((l ≡ off) × (r ≡ off) → ⊥) → ((l ≡ on) × (r ≡ on) → ⊥) →
+      norm_id l r ≡ pair l r
   pub twins : (n m : ℕ) → norm n (leaf m) (leaf m) ≡ leaf (n + m)
-  pub others : (n m : ℕ) (l r : Event) → (TwinLeaves l r → ⊥) → m ≡ min (low l) (low r) → norm n l r ≡ node (n + m) (less m l) (less m r)
+  pub others : (n m : ℕ) (l r : Event) → (TwinLeaves l r → ⊥) → m ≡ min (low l) (low r) →
+      norm n l r ≡ node (n + m) (less m l) (less m r)
   pub less_leaf : (m n : ℕ) → less m (leaf n) ≡ leaf (n - m)
   pub less_triple : (m n : ℕ) (l r : Event) → less m (node n l r) ≡ node (n - m) l r
   pub plus_leaf : (m n : ℕ) → plus m (leaf n) ≡ leaf (n + m)

@@ -2,7 +2,7 @@
 --
 -- half u i             the first half of i, or the second where u says yes
 -- unsplittable n i     i is 0, or a half of it would be deeper than n
-use Rattle.std.specs.Prelude.{ℕ, Bool, true, false, cond, ◌||◌, nat_lt}
+use Rattle.std.specs.Prelude.{ℕ, Bool, true, false, if◌then◌else◌, ◌||◌, nat_lt}
 use Rattle.tree_rules.specs.Ids.{Id, off, on, pair, is_off, id_depth}
 
 -- the halves of 1 are (1,0) and (0,1)
@@ -18,10 +18,14 @@ half_pair true l r = pair off r
 abbrev pub half : Bool → Id → Id
 half u off = off
 half u on = half_one u
-half u (pair l r) = cond (is_off l) (pair off (half u r)) (cond (is_off r) (pair (half u l) off) (half_pair u l r))
+half u (pair l r) =
+    if is_off l
+    then pair off (half u r)
+    else (if is_off r then pair (half u l) off else half_pair u l r)
 
 abbrev pub split : Id → Id × Id
 split i = (half false i, half true i)
 
 abbrev pub unsplittable : ℕ → Id → Bool
-unsplittable n i = is_off i || (nat_lt n (id_depth (half false i)) || nat_lt n (id_depth (half true i)))
+unsplittable n i =
+    is_off i || (nat_lt n (id_depth (half false i)) || nat_lt n (id_depth (half true i)))

@@ -6,4 +6,6 @@ use Rattle.tree_rules.specs.Events.{Event, leaf, node, base, lo, hi}
 
 abbrev pub fits_up : Event → ℕ → Event → ℕ → Bool
 fits_up e u (leaf n) v = nat_le (v + n) (u + base e)
-fits_up e u (node n l r) v = nat_le (v + n) (u + base e) && (fits_up (lo e) (u + base e) l (v + n) && fits_up (hi e) (u + base e) r (v + n))
+fits_up e u (node n l r) v =
+    nat_le (v + n) (u + base e)
+    && (fits_up (lo e) (u + base e) l (v + n) && fits_up (hi e) (u + base e) r (v + n))

@@ -10,7 +10,7 @@
 -- behind_at c d k                   the count of name k is larger in d than in c
 -- covered c d                       no count is larger in d than in c
 -- event_due                         the cause with which event is refused, if any
-use Rattle.std.specs.Prelude.{ℕ, ◌+◌, max, Bool, cond, ◌&&◌, [], ◌∷◌, replicate, Option, nat_lt, ◌==◌, slice_index}
+use Rattle.std.specs.Prelude.{ℕ, ◌+◌, max, Bool, if◌then◌else◌, ◌&&◌, [], ◌∷◌, replicate, Option, nat_lt, ◌==◌, slice_index}
 use Rattle.clock.specs.declared.causes.Cause.{Cause}
 use Rattle.clock.specs.declared.causes.Cause.TheVariants.{PenSpent, AtLimit}
 use Rattle.clock.specs.Answers.{due, first}
@@ -32,16 +32,17 @@ abbrev pub open_name : {n : ℕ} → Names n → Counts n → ℕ → Bool
 open_name p c k = in_pen p k && nat_lt (count_of c k) 65535
 
 abbrev pub more_at : {n : ℕ} → Counts n → ℕ → ℕ → ℕ
-more_at c i k = count_of c k + cond (k == i) 1 0
+more_at c i k = count_of c k + (if k == i then 1 else 0)
 
 abbrev pub raised_at : {n : ℕ} → Names n → Counts n → ℕ → ℕ
-raised_at p c k = cond (lowest (open_name p c) k) (count_of c k + 1) (count_of c k)
+raised_at p c k = if lowest (open_name p c) k then count_of c k + 1 else count_of c k
 
 abbrev pub raised : {n : ℕ} → Names n → Counts n → Counts n
 raised {n} p c = clock_by n (raised_at p c)
 
 abbrev pub event_due : {n : ℕ} → Names n → Counts n → Option Cause
-event_due {n} p c = first (due (none (in_pen p) n) PenSpent ∷ due (none (open_name p c) n) AtLimit ∷ [])
+event_due {n} p c =
+    first (due (none (in_pen p) n) PenSpent ∷ due (none (open_name p c) n) AtLimit ∷ [])
 
 abbrev pub larger_at : {n : ℕ} → Counts n → Counts n → ℕ → ℕ
 larger_at c d k = max (count_of c k) (count_of d k)

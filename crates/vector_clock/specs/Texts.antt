@@ -5,7 +5,7 @@
 -- names_text p       all its names in braces: `{0,1,2}`, or `{}`
 -- counts_text c      all counts of the clock c in brackets: `[1,0,2]`
 -- item_text after n  one number of such a list, with a comma in front where others stand before it
-use Rattle.std.specs.Prelude.{ℕ, Bool, cond, List, [], ◌++◌, map, filter, codes}
+use Rattle.std.specs.Prelude.{ℕ, Bool, if◌then◌else◌, List, [], ◌++◌, map, filter, codes}
 use Rattle.std.specs.Fmt.{decimal}
 use Rattle.std.specs.List.{join_with_byte, range_with_len}
 use Rattle.vector_clock.specs.declared.pens.Names.{Names}
@@ -26,4 +26,4 @@ abbrev pub counts_text : {n : ℕ} → Counts n → List ℕ
 counts_text c = codes "[" ++ (commas c.counts ++ codes "]")
 
 abbrev pub item_text : Bool → ℕ → List ℕ
-item_text after n = cond after (codes ",") [] ++ decimal n
+item_text after n = (if after then codes "," else []) ++ decimal n
