@@ -7,7 +7,8 @@ use Rattle.season_log.specs.declared.calls.Call.TheVariants.{Reads, Writes, Seal
 use Rattle.season_log.specs.declared.calls.Reading.TheVariants.{Judge, Report, Show}
 use Rattle.season_log.specs.declared.calls.Writing.TheVariants.{Fork, Edit, Pull, Settle, Retire, Drop}
 use Rattle.season_log.specs.declared.forms.Form.{Form}
-use Rattle.season_log.specs.Rows.{row, Shape, IsCall, IsForm, AreForms}
+use Rattle.season_log.specs.Rows.{row, Shape, IsCall}
+use Rattle.season_log.specs.Forms.{IsForm, AreForms}
 
 -- in the order of the table
 abbrev pub calls : List Shape

@@ -10,7 +10,8 @@ use Rattle.season_log.specs.declared.mistakes.Mistake.{Mistake}
 use Rattle.season_log.specs.declared.mistakes.Mistake.TheVariants.{NotNumber, NotPayload}
 use Rattle.season_log.specs.declared.mistakes.PayloadError.{PayloadError}
 use Rattle.season_log.specs.Words.{Word, Numbers, number_read, mistake_or, number_mistake, IsNoPayload, PayloadMistake}
-use Rattle.season_log.specs.Rows.{row, count, word_count, Shape, IsForm}
+use Rattle.season_log.specs.Rows.{row, count, word_count, Shape}
+use Rattle.season_log.specs.Forms.{IsForm}
 use Rattle.season_log.specs.Calls.{Unread}
 
 abbrev IsNumberMistake : Mistake → Type 0

@@ -1,6 +1,7 @@
 ghost use Rattle.std.specs.Prelude.{◌≡◌, ◌+◌, ◌≤◌, List, if◌then◌else◌, find, IfSome, IfNone};
 ghost use Rattle.std.specs.Str.{bytes_eq};
-ghost use Rattle.season_log.specs.Rows.{Shape, IsForm, IsNoCall, AreForms};
+ghost use Rattle.season_log.specs.Rows.{Shape, IsNoCall};
+ghost use Rattle.season_log.specs.Forms.{IsForm, AreForms};
 
 /// How a call is written, and what it does.
 #[derive(Clone, Copy)]
