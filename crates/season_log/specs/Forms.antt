@@ -1,6 +1,7 @@
 -- What the code's table of forms, and the steps of reading by it, say of the rows.
 --
 -- IsForm c f           the form is that of the call c
+-- FormOf name f        the form is that of a call of this name
 -- AreForms cs fs       the forms are those of the calls, one for each
 -- HasName name taken   some call has the name, and takes a payload if `taken`, and else none
 -- Makes r name ns p    the row has this name, the first of these numbers, and this payload
@@ -13,6 +14,11 @@ pub record IsForm (c : Shape) (f : Form) : Type 0 where
   pub numbers : length (row c).numbers ≡ f.numbers
   pub payload : is_some (row c).payload ≡ f.payload
   pub written : (row c).written ≡ f.written.now
+
+pub record FormOf (name : List ℕ) (f : Form) : Type 0 where
+  pub call : Shape
+  pub named : f.name.now ≡ name
+  pub is : IsForm call f
 
 abbrev pub AreForms : List Shape → List Form → Type 0
 AreForms [] [] = Unit {0}

@@ -1,7 +1,7 @@
 ghost use Rattle.std.specs.Prelude.{◌≡◌, ◌+◌, ◌≤◌, List, if◌then◌else◌, find, IfSome, IfNone};
 ghost use Rattle.std.specs.Str.{bytes_eq};
 ghost use Rattle.season_log.specs.Rows.{Shape, IsNoCall};
-ghost use Rattle.season_log.specs.Forms.{IsForm, AreForms};
+ghost use Rattle.season_log.specs.Forms.{FormOf, AreForms};
 
 /// How a call is written, and what it does.
 #[derive(Clone, Copy)]
@@ -102,7 +102,7 @@ pub const FORMS: [Form; 10] = [
 
 /// The form of the call of this name.
 pub(crate) fn form_of(name: &str) -> Option<Form>
-    ensures found { IfSome result (λ f. (c : Shape) × (f.name.now ≡ name.now) × IsForm c f) }
+    ensures found { IfSome result (FormOf name.now) }
     ensures few { IfSome result (λ f. f.numbers ≤ 3) }
     ensures none { IfNone result (IsNoCall name.now) }
 {
@@ -112,8 +112,7 @@ pub(crate) fn form_of(name: &str) -> Option<Form>
 // The first of these forms that has the name: it is that of one of the calls.
 fn form_among(forms: &[Form], name: &str) -> Option<Form>
     ensures first { result ≡ find (λ f. bytes_eq f.name.now name.now) forms.now }
-    ensures known { (cs : List Shape) → AreForms cs forms.now →
-        IfSome result (λ f. (c : Shape) × (f.name.now ≡ name.now) × IsForm c f) }
+    ensures known { (cs : List Shape) → AreForms cs forms.now → IfSome result (FormOf name.now) }
 {
     first_form(forms, name)
 }
