@@ -5,7 +5,7 @@
 
 mod help;
 
-use crate::help::HELP;
+use crate::help::print_help;
 use log_replay::replay_log;
 use std::io::BufReader;
 use std::process::ExitCode;
@@ -25,7 +25,7 @@ fn main(rt: HostRuntime) -> io::Result<ExitCode> {
     }
     match word.as_str() {
         "--help" | "-h" => {
-            rt.print(HELP)?;
+            print_help(&rt)?;
             Ok(ExitCode::SUCCESS)
         }
         path => replay_file(&rt, path),

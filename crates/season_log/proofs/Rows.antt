@@ -7,7 +7,8 @@ use Rattle.history.specs.declared.calls.Call.TheVariants.{Reads, Writes, Seal}
 use Rattle.history.specs.declared.calls.Reading.TheVariants.{Judge, Report, Show}
 use Rattle.history.specs.declared.calls.Writing.TheVariants.{Fork, Edit, Pull, Settle, Retire, Drop}
 use Rattle.season_log.specs.declared.forms.Form.{Form}
-use Rattle.season_log.specs.Rows.{row, Shape, IsCall, IsForm, AreForms}
+use Rattle.season_log.specs.Rows.{row, Shape, IsCall}
+use Rattle.season_log.specs.Forms.{FormOf, AreForms}
 
 -- in the order of the table
 abbrev pub calls : List Shape
@@ -32,18 +33,15 @@ is_named name (c ∷ cs) e =
       | false ↦ λ same any. is_named name cs any
     ] (bytes_eq-Decides (row c).name name).0 e
 
-abbrev Found : List ℕ → Option Form → Type 0
-Found name r = IfSome r (λ f. (c : Shape) × (f.name.now ≡ name) × IsForm c f)
-
-first : (name : List ℕ) (cs : List Shape) (fs : List Form) → AreForms cs fs → Found name (find (λ f. bytes_eq f.name.now name) fs)
+first : (name : List ℕ) (cs : List Shape) (fs : List Form) → AreForms cs fs → IfSome (find (λ f. bytes_eq f.name.now name) fs) (FormOf name)
 first name [] [] each = tt
 first name [] (f ∷ fs) each = absurd each
 first name (c ∷ cs) [] each = absurd each
 first name (c ∷ cs) (f ∷ fs) each =
-    elim (bytes_eq f.name.now name) as (λ b. (b ≡ true → f.name.now ≡ name) → Found name (cond b (Some f) (find (λ f. bytes_eq f.name.now name) fs))) [
-      | true ↦ λ same. (c, same refl, each.0)
+    elim (bytes_eq f.name.now name) as (λ b. (b ≡ true → f.name.now ≡ name) → IfSome (cond b (Some f) (find (λ f. bytes_eq f.name.now name) fs)) (FormOf name)) [
+      | true ↦ λ same. record { call = c; named = same refl; is = each.0 }
       | false ↦ λ same. first name cs fs each.1
     ] (bytes_eq-Decides f.name.now name).0
 
-pub found : (name : List ℕ) (fs : List Form) (r : Option Form) → r ≡ find (λ f. bytes_eq f.name.now name) fs → (cs : List Shape) → AreForms cs fs → Found name r
-found name fs r e cs each = subst (Found name) (sym e) (first name cs fs each)
+pub found : (name : List ℕ) (fs : List Form) (r : Option Form) → r ≡ find (λ f. bytes_eq f.name.now name) fs → (cs : List Shape) → AreForms cs fs → IfSome r (FormOf name)
+found name fs r e cs each = subst (λ r. IfSome r (FormOf name)) (sym e) (first name cs fs each)

@@ -10,7 +10,8 @@ use Rattle.season_log.specs.declared.mistakes.Mistake.{Mistake}
 use Rattle.season_log.specs.declared.mistakes.Mistake.TheVariants.{NotNumber, NotPayload}
 use Rattle.season_log.specs.declared.mistakes.PayloadError.{PayloadError}
 use Rattle.season_log.specs.Words.{Word, Numbers, number_read, mistake_or, number_mistake, IsNoPayload, PayloadMistake}
-use Rattle.season_log.specs.Rows.{row, count, word_count, Shape, IsForm}
+use Rattle.season_log.specs.Rows.{row, count, word_count}
+use Rattle.season_log.specs.Forms.{FormOf}
 use Rattle.season_log.specs.Calls.{Unread}
 
 abbrev IsNumberMistake : Mistake → Type 0
@@ -28,13 +29,6 @@ of_numbers (w ∷ ws) m e = of_one w (decimal_of w.now) (number_mistake ws) m (o
 count_is : {T : Type 0} (o : Option T) → count o ≡ (if is_some o then 1 else 0)
 count_is None = refl
 count_is (Some x) = refl
-
--- the call whose form was found
-abbrev Known : Word → Form → Type 0
-Known name f = (x : Shape) × (f.name.now ≡ name.now) × IsForm x f
-
-many : (x : Shape) (f : Form) (ws : List Word) → IsForm x f → length ws ≡ f.numbers + (if f.payload then 1 else 0) → length ws ≡ word_count (row x)
-many x f ws is e = cc (e, is.numbers, is.payload, count_is (row x).payload)
 
 -- the residual of a `?` is the mistake that was told
 pub told : {T : Type 0} (r : Result T Mistake) (m : Mistake) (Q : Mistake → Type 0) → IsErrAnd r (λ x. x ≡ m) → Q m → IfErr r Q
@@ -54,18 +48,23 @@ slice_get-drop [] (suc n) = refl
 slice_get-drop (v ∷ ws) zero = refl
 slice_get-drop (v ∷ ws) (suc n) = slice_get-drop ws n
 
-module _ {P E : Type 0} (g : List ℕ → Result P E → Type 0) (c : E → PayloadError → Type 0) (name : Word) (ws : List Word) (f : Form) (known : Known name f) (as_many : length ws ≡ f.numbers + (if f.payload then 1 else 0)) where
+module _ {P E : Type 0} (g : List ℕ → Result P E → Type 0) (c : E → PayloadError → Type 0) (name : Word) (ws : List Word) (f : Form) (found : FormOf name.now f) (as_many : length ws ≡ f.numbers + (if f.payload then 1 else 0)) where
+  named : name.now ≡ (row found.call).name
+  named = cc (found.named, found.is.name)
+
+  many : length ws ≡ word_count (row found.call)
+  many = cc (as_many, found.is.numbers, found.is.payload, count_is (row found.call).payload)
+
   pub number_unread : (front : List Word) (m : Mistake) → front ≡ take f.numbers ws → number_mistake front ≡ Some m → Unread g c name ws m
   number_unread front m fr e =
       let n = of_numbers front m e in
-      let is = known.2 in
-      let k : number_mistake (take (length (row known.0).numbers) ws) ≡ Some (NotNumber n.0 n.1) = cc (e, fr, n.2, is.numbers) in
-      subst (Unread g c name ws) (sym n.2) (known.0, cc (known.1, is.name), (many known.0 f ws is as_many, k))
+      let told : number_mistake (take (length (row found.call).numbers) ws) ≡ Some (NotNumber n.0 n.1) = cc (e, fr, n.2, found.is.numbers) in
+      subst (Unread g c name ws) (sym n.2) (found.call, named, (many, told))
 
   of_payload : (w : Word) (m : Mistake) → number_mistake (take f.numbers ws) ≡ None → slice_get ws f.numbers ≡ Some w → PayloadMistake g c w m → Unread g c name ws m
   of_payload w (NotPayload v error) none at p =
-      let is = known.2 in
-      (known.0, cc (known.1, is.name), (many known.0 f ws is as_many, cc (none, is.numbers), cc (at, is.numbers, p.0), subst (λ (x : Word). IsNoPayload g c x error) (sym p.0) p.1))
+      let is_none = subst (λ (x : Word). IsNoPayload g c x error) (sym p.0) p.1 in
+      (found.call, named, (many, cc (none, found.is.numbers), cc (at, found.is.numbers, p.0), is_none))
   of_payload w _ none at p = absurd p
 
   pub payload_unread : (front rest : List Word) (ns : List ℕ) (w : Word) (m : Mistake) → front ≡ take f.numbers ws → rest ≡ drop f.numbers ws → 1 ≤ length rest → Numbers front ns → PayloadMistake g c (get_or rest 0 w) m → Unread g c name ws m

@@ -1,6 +1,7 @@
 ghost use Rattle.std.specs.Prelude.{◌≡◌, ◌≤◌, None, Some, true, false, take, length, IfOk, IfErr};
 ghost use Rattle.season_log.specs.Calls.{Spells, Unread, Complete};
-ghost use Rattle.season_log.specs.Rows.{row, HasName, Makes};
+ghost use Rattle.season_log.specs.Rows.{row};
+ghost use Rattle.season_log.specs.Forms.{HasName, Makes};
 ghost use Rattle.season_log.specs.Words.{Numbers, number_mistake, PayloadMistake};
 
 use crate::forms::form_of;
