@@ -9,7 +9,7 @@
 -- WordsEnd ws y m                m says what is wrong with such a line
 -- LineLeaves text y z p          the same of a line as it stands in the log
 -- LineEnds text y m              the same
-use Rattle.std.specs.Prelude.{◌≡◌, Bool, true, false, MatchBool, codes, ℕ, List, [], ◌∷◌, Some, None, Option, IsSome}
+use Rattle.std.specs.Prelude.{◌≡◌, Bool, true, false, MatchBool, codes, ℕ, List, [], ◌∷◌, Some, None, Option}
 use Rattle.std.specs.Str.{bytes_eq}
 use Rattle.season_log.specs.declared.mistakes.Mistake.{Mistake}
 use Rattle.season_log.specs.declared.mistakes.Mistake.TheVariants.{UnknownCall, NoYard}

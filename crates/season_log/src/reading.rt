@@ -26,7 +26,10 @@ where
 }
 
 // The same, to whose two clauses `read_call` adds that no call is missed.
-fn spelled_call<'a, P: FromStr>(name: &'a str, arguments: &[&'a str]) -> Result<Call<P>, Mistake<'a>>
+fn spelled_call<'a, P: FromStr>(
+    name: &'a str,
+    arguments: &[&'a str],
+) -> Result<Call<P>, Mistake<'a>>
 where
     PayloadError: From<P::Err>,
     ensures read { IfOk result (Spells P.from_str_gives name.now arguments.now) }

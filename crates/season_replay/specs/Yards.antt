@@ -10,7 +10,7 @@
 --   sealed            it is sealed if it was, or if the call is seal
 --   card              its card has the sizes that it had
 --   tables            the answer and the two tables are those of the call
-use Rattle.std.specs.Prelude.{◌≡◌, ℕ, Bool, true, false, not, ◌||◌, List, [], Ok, Result, replicate}
+use Rattle.std.specs.Prelude.{◌≡◌, ℕ, Bool, true, false, not, ◌||◌, List, [], Result, replicate}
 use Rattle.clock.specs.declared.faults.Fault.{Fault}
 use Rattle.clock.specs.Meaning.{Meaning}
 use Rattle.history.specs.declared.answers.Answer.{Answer}

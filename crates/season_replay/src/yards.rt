@@ -77,10 +77,7 @@ fn read<K: Card, C: Clock, P: Payload>(season: &Season<K, C, P>, call: Reading) 
     reply(answer, bytes, season.sizes().files)
 }
 
-fn write<C: Clock, P: Payload>(
-    season: &mut Season<OpenCard, C, P>,
-    call: Writing<P>,
-) -> Answered<C>
+fn write<C: Clock, P: Payload>(season: &mut Season<OpenCard, C, P>, call: Writing<P>) -> Answered<C>
     ensures result { left_in result season.new [] ≡ replied C.meaning P.same season.old (Writes call) }
     ensures card { season.new.card ≡ season.old.card }
 {
