@@ -6,6 +6,7 @@ ghost use Rattle.season_log.specs.Forms.{FormOf, AreForms};
 /// How a call is written, and what it does.
 #[derive(Clone, Copy)]
 pub struct Form {
+    /// The first word of its lines.
     pub name: &'static str,
     /// How many berths and files come after the name.
     pub numbers: usize,
@@ -13,6 +14,7 @@ pub struct Form {
     pub payload: bool,
     /// As a user is told it.
     pub written: &'static str,
+    /// As `govdrez --help` tells it.
     pub does: &'static str,
 }
 
