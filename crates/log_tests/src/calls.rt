@@ -1,9 +1,9 @@
 use crate::DIGEST;
 use clock::Verdict;
-use history::Sizes;
+use history::{Answer, Call, Reading, Sizes, Writing};
 use payload::{Ticket, TicketError, Valve};
 use season_log::{
-    Answer, Call, Kind, Mistake, Opening, PayloadError, PayloadKind, Reading, Writing, read_payload,
+    Kind, Mistake, Opening, PayloadError, PayloadKind, Reply, read_call, read_payload,
 };
 use std::fmt::Display;
 use std::process::Abort;
@@ -55,7 +55,7 @@ fn writes(rt: &impl Abort, name: &str, words: &[&str], call: Writing<Valve>) {
 }
 
 fn reads(rt: &impl Abort, name: &str, words: &[&str], call: Call<Valve>) {
-    assert!(rt; Call::read(name, words).ok() == Some(call), "{name}");
+    assert!(rt; read_call(name, words).ok() == Some(call), "{name}");
 }
 
 #[test]
@@ -169,25 +169,25 @@ fn numbers_are_read(rt: HostRuntime) {
         );
     }
     for word in ["", "01", "00", "+1", "-1", "1e3", "18446744073709551616"] {
-        assert!(rt; Call::<Valve>::read("drop", &[word]).is_err(), "{word}");
+        assert!(rt; read_call::<Valve>("drop", &[word]).is_err(), "{word}");
     }
 }
 
 // Each form of answer, as a log prints it.
 #[test]
 fn answers_are_printed(rt: HostRuntime) -> Result<(), Fail> {
-    answers(&rt, &Answer::Done, "ok")?;
+    answers(&rt, Answer::Done, "ok")?;
     let sizes = Sizes {
         berths: 2,
         files: 2,
     };
-    answers(&rt, &Answer::Opened(sizes), "ok 2 berths 2 files")?;
-    answers(&rt, &Answer::Judged(Verdict::Ahead), "ahead")?;
-    let mut bytes = [9; 32];
-    (bytes[0], bytes[1]) = (0, 2);
+    prints(
+        &rt,
+        &Reply::<&str, &str>::Opened(sizes),
+        "ok 2 berths 2 files",
+    )?;
+    answers(&rt, Answer::Judged(Verdict::Ahead), "ahead")?;
     let report = Answer::Reported {
-        bytes,
-        files: 2,
         equal: 1,
         stale: 0,
         ahead: 1,
@@ -196,30 +196,45 @@ fn answers_are_printed(rt: HostRuntime) -> Result<(), Fail> {
     };
     answers(
         &rt,
-        &report,
+        report,
         "0 2 | equal 1 stale 0 ahead 1 conflict 0 twins 0",
     )?;
-    bytes[1] = 1;
     let pull = Answer::Pulled {
-        bytes,
-        files: 2,
         taken: 1,
         conflicts: 0,
     };
-    answers(&rt, &pull, "0 1 | taken 1 conflict 0")?;
+    told(&rt, pull, 0, 1, "0 1 | taken 1 conflict 0")?;
     let shown = Answer::Shown {
         pen: "(1,0)",
         clock: "(0,1,0)",
     };
-    answers(&rt, &shown, "(1,0) (0,1,0)")
+    answers(&rt, shown, "(1,0) (0,1,0)")
 }
 
 fn answers<R: Abort + AllocGlobal>(
     rt: &R,
-    answer: &Answer<&str, &str>,
+    answer: Answer<&str, &str>,
     text: &str,
 ) -> Result<(), Fail> {
-    prints(rt, answer, text)
+    told(rt, answer, 0, 2, text)
+}
+
+// An answer whose buffer begins with these two verdicts, in a yard of two files.
+fn told<R: Abort + AllocGlobal>(
+    rt: &R,
+    answer: Answer<&str, &str>,
+    first: u8,
+    second: u8,
+    text: &str,
+) -> Result<(), Fail> {
+    let mut bytes = [9; 32];
+    (bytes[0], bytes[1]) = (first, second);
+    let reply = Reply::Answered {
+        answer,
+        bytes,
+        files: 2,
+    };
+    prints(rt, &reply, text)
 }
 
 fn tells<R: Abort + AllocGlobal>(
@@ -228,7 +243,7 @@ fn tells<R: Abort + AllocGlobal>(
     words: &[&str],
     text: &str,
 ) -> Result<(), Fail> {
-    let mistake = Call::<Valve>::read(name, words).err();
+    let mistake = read_call::<Valve>(name, words).err();
     prints(rt, &mistake.ok_or("no mistake")?, text)
 }
 
