@@ -7,8 +7,8 @@ use Rattle.history.specs.declared.tables.Record.{Record}
 use Rattle.history.specs.Tables.{Card, Made}
 use Rattle.history.specs.Checks.{Left}
 use Rattle.history.specs.Page.{Asked}
-use Rattle.history.specs.Calls.{Value}
-use Rattle.history.specs.Calls.{leaves}
+use Rattle.history.specs.declared.answers.Answer.{Answer}
+use Rattle.history.specs.Calls.{Value, leaves, said}
 use Rattle.history.specs.Law.{LawfulCall, LawfulAt}
 use Rattle.history.proofs.Law.{leaves_made, lawful_call}
 
@@ -18,6 +18,10 @@ module _ {Pen C P : Type 0} (m : Meaning Pen C) (sound : Sound m) (alike : P →
 
   pub lawful_from : LawfulCall m alike c bs cs l
   lawful_from = subst (λ (k : Left Pen C P (Value m c)). LawfulCall m alike c bs cs k) (sym e) (lawful_call m sound alike c bs cs)
+
+-- the same, from its result in the one type of answers
+pub made_said : {Pen C P : Type 0} (m : Meaning Pen C) (sound : Sound m) (alike : P → P → Bool) (c : Asked P) (bs : List (Berth Pen)) (cs : List (Record C P)) (l : Left Pen C P (Answer Pen C)) → l ≡ said m alike c bs cs → Made m bs cs → Made m l.berths l.copies
+made_said {Pen} {C} {P} m sound alike c bs cs l e made = subst (λ (k : Left Pen C P (Answer Pen C)). Made m k.berths k.copies) (sym e) (leaves_made m sound alike c bs cs made)
 
 -- any test of payloads, for a call that asks none
 abbrev pub any : {P : Type 0} → P → P → Bool

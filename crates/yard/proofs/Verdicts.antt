@@ -38,6 +38,10 @@ told_more n m f v bytes now y w ef em lt e ey ew = ap (λ k. set now k y) ef ∙
 pub told_length : (bytes now : List ℕ) (f y : ℕ) → length now ≡ length bytes → length (set now f y) ≡ length bytes
 told_length bytes now f y e = length-set now f y ∙ e
 
+-- the same, once every file is told
+pub told_all : (F n : ℕ) (v : ℕ → Verdict) (bytes now : List ℕ) → n ≡ F → now ≡ reported n v bytes → now ≡ reported F v bytes
+told_all F n v bytes now e is = is ∙ ap (λ k. reported k v bytes) e
+
 pub reported-none : (v : ℕ → Verdict) (bytes : List ℕ) → bytes ≡ reported 0 v bytes
 reported-none v bytes = sym (upto-none (λ f z. byte_of (v f)) bytes)
 

@@ -2,7 +2,7 @@ use Rattle.std.proofs.Common.{◌≡◌, ◌*◌, ◌≤◌, sym, refl, ap, ◌�
 use Rattle.clock.specs.declared.verdicts.Verdict.TheVariants.{Stale, Conflict}
 use Rattle.history.specs.Tables.{judged, reported, is_stale, is_conflict}
 use Rattle.history.proofs.Lookups.{place_within}
-use Rattle.yard.proofs.Verdicts.{told_more, told_length, reported-none, counts_told, told_stale, told_conflict}
+use Rattle.yard.proofs.Verdicts.{told_more, told_length, told_all, reported-none, counts_told, told_stale, told_conflict}
 use Rattle.yard.proofs.Taken.{taking, turn, taking-none, taking_all, taking_more, taking_verdict, taken_clocks}
 use Rattle.yard.proofs.pulling.pull_files.Goals as goal
 
@@ -68,7 +68,7 @@ returns g c =
     let k = c.loop-f.invariant in
     let over : F ≤ n = ⊎_elim (λ z. omega (arith, z.1.0, k.2, k.3)) (λ z. omega (arith, z.1.0, k.4, k.5)) c.in-None.ensures.steps.0 in
     let e : n ≡ F = omega (arith, over, k.6) in
-    let told = k.10 ∙ ap (λ j. reported j v c.args.bytes.now) e in
+    let told = told_all F n v c.args.bytes.now c.loop-f.bytes e k.10 in
     record {
       copies = k.7 ∙ taking_all m F c.args.a c.args.b cs c.requires.ready.0.some_files n e;
       bytes = told;

@@ -3,7 +3,7 @@ use Rattle.clock.specs.declared.verdicts.Verdict.TheVariants.{Equal, Stale, Ahea
 use Rattle.history.specs.Tables.{judged, reported, count, is_equal, is_stale, is_ahead, is_conflict}
 use Rattle.history.specs.Report.{twins}
 use Rattle.yard.proofs.Rows.{all_left, pair_of, none_left}
-use Rattle.yard.proofs.Verdicts.{is_not_conflict, told_more, told_length, reported-none, counts_told, told_equal, told_stale, told_ahead, told_conflict}
+use Rattle.yard.proofs.Verdicts.{is_not_conflict, told_more, told_length, told_all, reported-none, counts_told, told_equal, told_stale, told_ahead, told_conflict}
 use Rattle.yard.proofs.Reported.{twins_more, twin_at}
 use Rattle.yard.proofs.reporting.report_files.Goals as goal
 use Rattle.yard.proofs.reporting.report_files.Goals.{else-eq-via-then-eq+else-alike, else-eq-via-else-eq}
@@ -94,7 +94,7 @@ returns g c =
     (λ z. none_left F (c.args.b * F) n cs _ c.loop-f.invariant.3 z.1.0 (omega arith))
     c.in-None.ensures.steps.0 in
     let e : n ≡ F = omega (arith, over) in
-    let told = c.loop-f.invariant.5 ∙ ap (λ k. reported k v c.args.bytes.now) e in
+    let told = told_all F n v c.args.bytes.now c.loop-f.bytes e c.loop-f.invariant.5 in
     let room = c.requires.ready.1 in
     let equal = counts_told F v c.args.bytes.now room Equal is_equal told_equal _ c.count_verdict-equal.result told c.count_verdict-equal.ensures in
     let stale = counts_told F v c.args.bytes.now room Stale is_stale told_stale _ c.count_verdict-stale.result told c.count_verdict-stale.ensures in
