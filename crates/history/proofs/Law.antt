@@ -1,7 +1,7 @@
 -- The law of histories, and its form at each call.
 use Rattle.std.proofs.Common.{◌≡◌, ℕ, ◌<◌, Bool, List, [], ◌∷◌, length, Some, sym, refl, ◌∙◌, subst, ⊎_elim}
 use Rattle.std.specs.List.{slice_get}
-use Rattle.std.proofs.lemmas.Option.{slice_get_past}
+use Rattle.std.proofs.lemmas.Option.{none-some, slice_get_past}
 use Rattle.std.proofs.lemmas.Bool.{cases_lt}
 use Rattle.clock.specs.Meaning.{Meaning}
 use Rattle.clock.specs.Sound.{Sound}
@@ -12,14 +12,13 @@ use Rattle.history.specs.Open.{open_result}
 use Rattle.history.specs.Page.{Asked}
 use Rattle.history.specs.Calls.{page_of, leaves}
 use Rattle.history.specs.Law.{Yard, yard, called, all_called, Reached, Points, LawOf, LawfulCall, LawfulOpen}
-use Rattle.history.proofs.Lookups.{none_is_not}
 use Rattle.history.proofs.Holding.{compared, equal_holds, verdict_at}
 use Rattle.history.proofs.Open.{GoodYard, opened_good}
 use Rattle.history.proofs.EachCall.{shows}
 use Rattle.history.proofs.Pages as pages
 
 nth_below : {A : Type 0} (xs : List A) (i : ℕ) (x : A) → slice_get xs i ≡ Some x → i < length xs
-nth_below xs i x e = ⊎_elim (λ lt. lt) (λ ge. absurd (none_is_not x (sym (slice_get_past xs i ge) ∙ e))) (cases_lt i (length xs))
+nth_below xs i x e = ⊎_elim (λ lt. lt) (λ ge. absurd (none-some x (sym (slice_get_past xs i ge) ∙ e))) (cases_lt i (length xs))
 
 module _ {Pen C P : Type 0} (m : Meaning Pen C) (sound : Sound m) (alike : P → P → Bool) where
   pub leaves_made : (q : Asked P) (bs : List (Berth Pen)) (cs : List (Record C P)) → Made m bs cs → Made m (leaves m alike q bs cs).berths (leaves m alike q bs cs).copies

@@ -90,7 +90,7 @@ module _ {Pen C P : Type 0} (m : Meaning Pen C) (sound : Sound m) (payloads : Li
   opened_good bs cs card ok = go (wrong_sizes (card_of bs payloads) bs cs) refl ok
     where
       go : (o : Option Fault) → wrong_sizes (card_of bs payloads) bs cs ≡ o → (unless bs cs [] o (left (Ok (card_of bs payloads)) (opened_berths m bs) (opened_copies m payloads cs) [])).answer ≡ Ok card → GoodYard (new_yard (unless bs cs [] o (left (Ok (card_of bs payloads)) (opened_berths m bs) (opened_copies m payloads cs) [])))
-      go (Some e) p q = let z : ◌≡◌ {A = ℕ} 0 1 = cc in absurd (omega arith)
+      go (Some e) p q = absurd (cc)
       go None p q = let s = fit (card_of bs payloads) bs cs p in record {
         some_berths = subst (λ n. 1 ≤ n) (sym (length_each _ bs)) s.some_berths;
         sizes = length_each _ cs ∙ s.copies_are ∙ ap (λ n. n * length payloads) (sym (length_each _ bs));

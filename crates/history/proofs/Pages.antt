@@ -9,6 +9,7 @@ use Rattle.clock.specs.declared.faults.Fault.{Fault}
 use Rattle.clock.specs.Answers.{due, first}
 use Rattle.clock.specs.Causes.{number_of}
 use Rattle.clock.specs.Meaning.{Meaning}
+use Rattle.clock.proofs.Dues.{due_some}
 use Rattle.history.specs.declared.tables.Berth.{Berth}
 use Rattle.history.specs.declared.tables.Record.{Record}
 use Rattle.history.specs.Tables.{Made}
@@ -17,7 +18,6 @@ use Rattle.history.specs.History.{History, Still}
 use Rattle.history.specs.Page.{Page, result}
 use Rattle.history.specs.Law.{after, was_ok, Lawful}
 use Rattle.history.proofs.Lookups.{at}
-use Rattle.history.proofs.Due.{due_is}
 use Rattle.history.proofs.Invariant.{Inv}
 use Rattle.history.proofs.Good.{Good}
 use Rattle.history.proofs.Still.{same_still}
@@ -29,17 +29,17 @@ pub ok_is : {A : Type 0} (v w : A) → ◌≡◌ {A = Result A Fault} (Ok v) (Ok
 ok_is v w e = cc
 
 pub err_not_ok : {A : Type 0} (e : Fault) (v : A) → ◌≡◌ {A = Result A Fault} (Err e) (Ok v) → ⊥
-err_not_ok e v q = let z : ◌≡◌ {A = ℕ} 0 1 = cc in omega arith
+err_not_ok e v q = cc
 
 pub ok_not_err : {A : Type 0} (e : Fault) (v : A) → ◌≡◌ {A = Result A Fault} (Ok v) (Err e) → ⊥
-ok_not_err e v q = let z : ◌≡◌ {A = ℕ} 0 1 = cc in omega arith
+ok_not_err e v q = cc
 
 -- a refusal that says nothing of pens
 abbrev pub NoOverlap : Fault → Type 0
 NoOverlap e = e.cause ≡ PensOverlap → ⊥
 
 pub plain : (t : Bool) (d : Fault) → number_of d.cause ≤ 8 → (e : Fault) → due t d ≡ Some e → NoOverlap e
-plain t d le e q k = omega (arith, ap (λ (z : Fault). number_of z.cause) (due_is t d e q), ap number_of k)
+plain t d le e q k = omega (arith, ap (λ (z : Fault). number_of z.cause) (due_some t d e q).1, ap number_of k)
 
 module _ {Pen C P : Type 0} (p : Page Pen C P) (alike : P → P → Bool) (bs : List (Berth Pen)) (cs : List (Record C P)) (bytes : List ℕ) where
   -- whichever way a call goes

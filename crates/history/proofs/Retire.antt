@@ -9,6 +9,7 @@ use Rattle.clock.specs.Answers.{due, first}
 use Rattle.clock.specs.Causes.{number_of}
 use Rattle.clock.specs.Meaning.{Meaning, Yes}
 use Rattle.clock.specs.Sound.{Sound, Apart, United}
+use Rattle.clock.proofs.Dues.{due_some}
 use Rattle.history.specs.declared.tables.Berth.{Berth}
 use Rattle.history.specs.declared.tables.Record.{Record}
 use Rattle.history.specs.Tables.{Card, working, works_in, pen_in, pen_at, clock_in, empty_berth, working_berth, row, newer_from, is_conflict, judged}
@@ -21,7 +22,7 @@ use Rattle.history.proofs.Lookups.{at, length_each, three_ways, two_first, two_s
 use Rattle.history.proofs.Invariant.{Well, Inv}
 use Rattle.history.proofs.Moved.{moved}
 use Rattle.history.proofs.Taken.{cs', merge_source, b_within, merge_up, a_within}
-use Rattle.history.proofs.Due.{each_undue, each_refusal, within, differ, in_use, calm, conflict_at, lowest_some, unplaced, placed_is, due_is}
+use Rattle.history.proofs.Due.{each_undue, each_refusal, within, differ, in_use, calm, conflict_at, lowest_some, unplaced, placed_is}
 use Rattle.history.proofs.WellMade.{PenMade, every_set, pen_made-at, row_made, newer_made}
 use Rattle.history.proofs.Good.{Good, well, card_files, at_card, back, pen_made, no_conflicts}
 use Rattle.history.proofs.Holding.{verdict_at}
@@ -129,7 +130,7 @@ module _ {Pen C P : Type 0} (m : Meaning Pen C) (sound : Sound m) (card : Card) 
     AtLowest e = e.cause ≡ InConflict → (f : ℕ) × (e.file ≡ Some f) × Compares Conflict (h.behind b f) (h.behind a f) × ((j : ℕ) → j < f → Compares Conflict (h.behind b j) (h.behind a j) → ⊥)
 
     early : (t : Bool) (d : Fault) → number_of d.cause ≤ 6 → (e : Fault) → due t d ≡ Some e → AtLowest e
-    early t d le e q k = absurd (omega (arith, ap (λ (z : Fault). number_of z.cause) (due_is t d e q), ap number_of k))
+    early t d le e q k = absurd (omega (arith, ap (λ (z : Fault). number_of z.cause) (due_some t d e q).1, ap number_of k))
 
     at_conflict : wrong_sizes card bs cs ≡ None → working bs a ≡ true → working bs b ≡ true → (e : Fault) → some_conflict m card.files cs a b ≡ Some e → AtLowest e
     at_conflict sizes one two e q k =

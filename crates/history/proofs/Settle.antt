@@ -10,6 +10,7 @@ use Rattle.clock.specs.Answers.{due, first}
 use Rattle.clock.specs.Causes.{number_of}
 use Rattle.clock.specs.Meaning.{Meaning, Yes}
 use Rattle.clock.specs.Sound.{Sound, Evented, Joined}
+use Rattle.clock.proofs.Dues.{due-none, due_some}
 use Rattle.history.specs.declared.tables.Berth.{Berth}
 use Rattle.history.specs.declared.tables.Record.{Record}
 use Rattle.history.specs.Tables.{Card, working, pen_at, clock_at, judged, is_conflict}
@@ -21,7 +22,7 @@ use Rattle.history.proofs.Sets.{has_left, has_right, has_either}
 use Rattle.history.proofs.Lookups.{at, set_here, set_there}
 use Rattle.history.proofs.Invariant.{Backed, Inv}
 use Rattle.history.proofs.Numbered.{written}
-use Rattle.history.proofs.Due.{each_undue, each_refusal, within, file_below, in_use, undue, unplaced, placed_is, due_is}
+use Rattle.history.proofs.Due.{each_undue, each_refusal, within, file_below, in_use, unplaced, placed_is}
 use Rattle.history.proofs.WellMade.{ClockMade, every_set, pen_made-at, clock_made-at}
 use Rattle.history.proofs.Good.{Good, well, at_card, back, pen_made, event_number}
 use Rattle.history.proofs.Holding.{verdict_at}
@@ -71,7 +72,7 @@ module _ {Pen C P : Type 0} (m : Meaning Pen C) (sound : Sound m) (card : Card) 
     file = file_below card f file;
     one_works = in_use bs a one_works;
     two_works = in_use bs b two_works;
-    conflict = not-false _ (undue _ _ conflict);
+    conflict = not-false _ (due-none _ _ conflict);
     joins = unplaced _ _ _ joins;
     events = unplaced _ _ _ events;
   })
@@ -92,14 +93,14 @@ module _ {Pen C P : Type 0} (m : Meaning Pen C) (sound : Sound m) (card : Card) 
 
     early : (t : Bool) (d : Fault) → number_of d.cause ≤ 6 → (e : Fault) → due t d ≡ Some e → NoTear e
     unfolding NoTear
-    early t d le e q k con = omega (arith, ap (λ (z : Fault). number_of z.cause) (due_is t d e q), ap number_of k)
+    early t d le e q k con = omega (arith, ap (λ (z : Fault). number_of z.cause) (due_some t d e q).1, ap number_of k)
 
     at_conflict : wrong_sizes card bs cs ≡ None → f < card.files → working bs a ≡ true → working bs b ≡ true → (e : Fault) → no_conflict m card.files cs a b f ≡ Some e → NoTear e
     unfolding NoTear
     at_conflict sizes file one two e q k con =
         let v : judged m card.files cs b a f ≡ Conflict = (compared sizes file one two).conflict.1 (con.conflict.0 refl) in
         let x : no_conflict m card.files cs a b f ≡ None = cond-false _ _ _ (ap (λ (u : Verdict). not (is_conflict u)) v) in
-        let n : ◌≡◌ {A = ℕ} 0 1 = cc in omega arith
+        cc
 
     late_join : (e : Fault) → placed (Some b) (Some f) (m.join_due (clock_at m card.files cs b f) (clock_at m card.files cs a f)) ≡ Some e → 13 < number_of e.cause
     late_join e q = let r = sound.join_cause _ _ e.cause (clock b) (clock a) (placed_is _ _ _ e q) in omega (arith, ap number_of r)

@@ -19,7 +19,7 @@
 -- Holds            a copy holds the opening payload if no edit is behind it, else that of the one edit behind it
 --                  that was made with exactly all the others behind it
 -- Still            every edit behind some copy before is behind some copy after
-use Rattle.std.specs.Prelude.{◌≡◌, ℕ, suc, ◌<◌, Bool, true, false, cond, not, ◌&&◌, ◌||◌, ◌⊎◌, ◌↔◌, List, [], ◌∷◌, Some, None, Option, ◌==◌}
+use Rattle.std.specs.Prelude.{◌≡◌, ℕ, suc, ◌<◌, Bool, true, false, if◌then◌else◌, not, ◌&&◌, ◌||◌, ◌⊎◌, ◌↔◌, List, [], ◌∷◌, Some, None, Option, ◌==◌}
 use Rattle.clock.specs.declared.verdicts.Verdict.{Verdict}
 use Rattle.clock.specs.declared.verdicts.Verdict.TheVariants.{Equal, Stale, Ahead, Conflict}
 use Rattle.clock.specs.Verdicts.{byte_of}
@@ -44,10 +44,10 @@ pub record History (P : Type 0) : Type 0 where
 
 -- a function changed at one place, and at one pair
 abbrev pub put : {A : Type 0} → (ℕ → A) → ℕ → A → ℕ → A
-put g n v k = cond (k == n) v (g k)
+put g n v k = if k == n then v else g k
 
 abbrev pub put2 : {A : Type 0} → (ℕ → ℕ → A) → ℕ → ℕ → A → ℕ → ℕ → A
-put2 g a f v b k = cond (b == a && k == f) v (g b k)
+put2 g a f v b k = if b == a && k == f then v else g b k
 
 module _ {P : Type 0} where
   -- after open only berth 0 has copies, with no edit behind them
@@ -56,8 +56,8 @@ module _ {P : Type 0} where
 
   abbrev pub larger : History P → ℕ → ℕ → ℕ → List ℕ
   larger h a b f =
-      cond (inside (h.behind b f) (h.behind a f) && not (inside (h.behind a f) (h.behind b f)))
-      (h.behind a f) (h.behind b f)
+      if inside (h.behind b f) (h.behind a f) && not (inside (h.behind a f) (h.behind b f))
+      then h.behind a f else h.behind b f
 
   -- an edit of berth b's copy of file f, with the set `before` behind it, gets the next number
   abbrev pub numbered : History P → ℕ → ℕ → P → List ℕ → History P

@@ -44,7 +44,8 @@ pub record Yard (Pen C P : Type 0) : Type 0 where
   pub copies : List (Record C P)
   pub history : History P
 
-abbrev pub yard : {Pen C P : Type 0} → List (Berth Pen) → List (Record C P) → History P → Yard Pen C P
+abbrev pub yard : {Pen C P : Type 0} → List (Berth Pen) → List (Record C P) → History P →
+    Yard Pen C P
 yard bs cs h = record { berths = bs; copies = cs; history = h }
 
 -- whether a call was accepted, and the edits behind the copies after it
@@ -57,7 +58,8 @@ after p (Ok x) h = p.edits h
 after p (Err e) h = h
 
 -- the yard that a call leaves, and the one that an open leaves
-abbrev pub left_yard : {Pen C P A : Type 0} → Page Pen C P → Left Pen C P A → History P → Yard Pen C P
+abbrev pub left_yard : {Pen C P A : Type 0} → Page Pen C P → Left Pen C P A → History P →
+    Yard Pen C P
 left_yard p l h = yard l.berths l.copies (after p l.answer h)
 
 abbrev pub new_yard : {Pen C P A : Type 0} → Left Pen C P A → Yard Pen C P
@@ -86,7 +88,8 @@ module _ {Pen C P : Type 0} (m : Meaning Pen C) (payloads : List P) (y : Yard Pe
   -- the verdict on any two copies of one file compares their sets
   abbrev pub Verdicts : Type 0
   Verdicts = (a b f : ℕ) → Stands a → Stands b → f < length payloads →
-      Compares (judged m (length payloads) y.copies a b f) (y.history.behind a f) (y.history.behind b f)
+      Compares (judged m (length payloads) y.copies a b f)
+      (y.history.behind a f) (y.history.behind b f)
 
   abbrev pub EveryVerdict : Type 0
   EveryVerdict = (card : Card) (a b f : ℕ) → wrong_sizes card y.berths y.copies ≡ None →
@@ -105,14 +108,17 @@ module _ {Pen C P : Type 0} (m : Meaning Pen C) (payloads : List P) (y : Yard Pe
       judged m (length payloads) y.copies a b f ≡ Equal →
       (x.payload ≡ z.payload) × Holds y.history opening (y.history.behind a f) x.payload
 
-pub record Lawful {Pen C P : Type 0} (payloads : List P) (h : History P) (p : Page Pen C P) (left : Left Pen C P p.Value) : Type 0 where
+pub record Lawful {Pen C P : Type 0} (payloads : List P) (h : History P) (p : Page Pen C P)
+    (left : Left Pen C P p.Value) : Type 0 where
   pub gives : p.gives h left
   pub rests_on : p.rests_on h left
   -- no call is refused since pens overlap
   pub clear : (e : Fault) → left.answer ≡ Err e → e.cause ≢ PensOverlap
-  pub still : (p.loses && was_ok left.answer) ≡ false → Still (length payloads) h (after p left.answer h)
+  pub still : (p.loses && was_ok left.answer) ≡ false →
+      Still (length payloads) h (after p left.answer h)
 
-module _ {Pen C P : Type 0} (m : Meaning Pen C) (alike : P → P → Bool) (payloads : List P) (y : Yard Pen C P) where
+module _ {Pen C P : Type 0} (m : Meaning Pen C) (alike : P → P → Bool) (payloads : List P)
+    (y : Yard Pen C P) where
   pub record Points : Type 0 where
     pub made : Made m y.berths y.copies
     -- the berths that have copies are those in use
@@ -121,25 +127,31 @@ module _ {Pen C P : Type 0} (m : Meaning Pen C) (alike : P → P → Bool) (payl
     pub every : EveryVerdict m payloads y
     pub holds : Payloads m payloads y
     pub apart : PensApart m payloads y
-    pub lawful : (q : Asked P) → Lawful payloads y.history (page_of m q) (leaves m alike q y.berths y.copies)
+    pub lawful : (q : Asked P) →
+        Lawful payloads y.history (page_of m q) (leaves m alike q y.berths y.copies)
 
 -- one clock kind and one payload type, whatever test says that two payloads are alike
 abbrev pub LawOf : {Pen C : Type 0} → Meaning Pen C → Type 0 → Type 0
-LawOf {Pen} {C} m P = (alike : P → P → Bool) (payloads : List P) (y : Yard Pen C P) → Reached m alike payloads y → Points m alike payloads y
+LawOf {Pen} {C} m P = (alike : P → P → Bool) (payloads : List P) (y : Yard Pen C P) →
+    Reached m alike payloads y → Points m alike payloads y
 
 -- at one call: the yard y as it was handed in, the call, and the yard that it leaves
-pub record Kept {Pen C P : Type 0} (m : Meaning Pen C) (alike : P → P → Bool) (payloads : List P) (y : Yard Pen C P) (q : Asked P) (left : Left Pen C P (Value m q)) : Type 0 where
+pub record Kept {Pen C P : Type 0} (m : Meaning Pen C) (alike : P → P → Bool) (payloads : List P)
+    (y : Yard Pen C P) (q : Asked P) (left : Left Pen C P (Value m q)) : Type 0 where
   pub before : Points m alike payloads y
   pub lawful : Lawful payloads y.history (page_of m q) left
   pub points : Points m alike payloads (left_yard (page_of m q) left y.history)
 
 module _ {Pen C P : Type 0} (m : Meaning Pen C) where
-  abbrev pub LawfulCall : (P → P → Bool) → (q : Asked P) → List (Berth Pen) → List (Record C P) → Left Pen C P (Value m q) → Type 0
+  abbrev pub LawfulCall : (P → P → Bool) → (q : Asked P) → List (Berth Pen) → List (Record C P) →
+      Left Pen C P (Value m q) → Type 0
   LawfulCall alike q bs cs left = (payloads : List P) (h : History P) →
       Reached m alike payloads (yard bs cs h) → Kept m alike payloads (yard bs cs h) q left
 
-  abbrev pub LawfulAt : (q : Asked P) → List (Berth Pen) → List (Record C P) → Left Pen C P (Value m q) → Type 0
+  abbrev pub LawfulAt : (q : Asked P) → List (Berth Pen) → List (Record C P) →
+      Left Pen C P (Value m q) → Type 0
   LawfulAt q bs cs left = (alike : P → P → Bool) → LawfulCall alike q bs cs left
 
   abbrev pub LawfulOpen : List P → Left Pen C P Card → Type 0
-  LawfulOpen payloads left = (alike : P → P → Bool) (card : Card) → left.answer ≡ Ok card → Points m alike payloads (new_yard left)
+  LawfulOpen payloads left = (alike : P → P → Bool) (card : Card) → left.answer ≡ Ok card →
+      Points m alike payloads (new_yard left)

@@ -18,9 +18,11 @@ use Rattle.history.specs.Page.{Page, Asked, asked}
 
 module _ {Pen C P : Type 0} (card : Card) (bs : List (Berth Pen)) (cs : List (Record C P)) where
   abbrev pub show_checks : ℕ → ℕ → List (Option Fault)
-  show_checks a f = wrong_sizes card bs cs ∷ no_berth card a ∷ no_file card f ∷ not_working bs a ∷ []
+  show_checks a f =
+      wrong_sizes card bs cs ∷ no_berth card a ∷ no_file card f ∷ not_working bs a ∷ []
 
-module _ {Pen C P : Type 0} (m : Meaning Pen C) (card : Card) (bs : List (Berth Pen)) (cs : List (Record C P)) where
+module _ {Pen C P : Type 0} (m : Meaning Pen C) (card : Card) (bs : List (Berth Pen))
+    (cs : List (Record C P)) where
   abbrev pub shown : ℕ → ℕ → List ℕ → Left Pen C P (Pen × C)
   shown a f bytes = left (Ok (pen_at m bs a, clock_at m card.files cs a f)) bs cs bytes
 

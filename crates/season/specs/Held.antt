@@ -27,8 +27,10 @@ module _ {Pen C P : Type 0} where
   abbrev pub left_in : {A : Type 0} → Result A Fault → Held Pen C P → List ℕ → Left Pen C P A
   left_in r h bytes = left r h.berths h.copies bytes
 
-  abbrev pub leaves_in : (m : Meaning Pen C) → (P → P → Bool) → Held Pen C P → (q : Asked P) → Left Pen C P (Value m q)
+  abbrev pub leaves_in : (m : Meaning Pen C) → (P → P → Bool) → Held Pen C P → (q : Asked P) →
+      Left Pen C P (Value m q)
   leaves_in m alike h q = leaves m alike q h.berths h.copies
 
-  abbrev pub said_in : Meaning Pen C → (P → P → Bool) → Held Pen C P → Asked P → Left Pen C P (Answer Pen C)
+  abbrev pub said_in : Meaning Pen C → (P → P → Bool) → Held Pen C P → Asked P →
+      Left Pen C P (Answer Pen C)
   said_in m alike h q = said m alike q h.berths h.copies

@@ -13,7 +13,8 @@ use Rattle.season.specs.Held.{Held, left_in}
 use Rattle.season.specs.declared.errors.OpenError.{OpenError}
 use Rattle.season.specs.declared.errors.OpenError.TheVariants.{Refused, OutOfMemory}
 
-pub record Opened {Pen C P : Type 0} (m : Meaning Pen C) (berths : ℕ) (payloads : List P) (h : Held Pen C P) : Type 0 where
+pub record Opened {Pen C P : Type 0} (m : Meaning Pen C) (berths : ℕ) (payloads : List P)
+    (h : Held Pen C P) : Type 0 where
   pub old_berths : List (Berth Pen)
   pub old_copies : List (Record C P)
   pub berth_count : length old_berths ≡ berths

@@ -1,10 +1,11 @@
 -- Tables that calls lead to, and what a verdict on them says.
 --
 -- Replayed m alike bs cs              some list of calls leads to these tables, from what an accepted open left
--- Behind m alike h a b f v            in the season h the verdict v compares the edits behind a's and b's copies of file f, as those calls made them
+-- Behind m alike h a b f v            in the season h the verdict v compares the edits behind a's
+--                                     and b's copies of file f, as those calls made them
 -- EachBehind m alike h a b bytes      the same of byte f of a buffer, for each file f
---
--- LawfulIn m alike h q                the call q is lawful in the season h: of the edits behind its copies, as those calls made them
+-- LawfulIn m alike h q                the call q is lawful in the season h: of the edits behind its
+--                                     copies, as those calls made them
 use Rattle.std.specs.Prelude.{ℕ, ◌<◌, Bool, List, slice_index}
 use Rattle.clock.specs.declared.verdicts.Verdict.{Verdict}
 use Rattle.clock.specs.Meaning.{Meaning}
@@ -29,7 +30,8 @@ module _ {Pen C P : Type 0} (m : Meaning Pen C) (alike : P → P → Bool) where
 
     pub record EachBehind (a b : ℕ) (bytes : List ℕ) : Type 0 where
       pub replayed : Replayed h.berths h.copies
-      pub compares : (f : ℕ) → f < h.card.files → ComparesByte (slice_index bytes f) (replayed.history.behind a f) (replayed.history.behind b f)
+      pub compares : (f : ℕ) → f < h.card.files → ComparesByte (slice_index bytes f)
+          (replayed.history.behind a f) (replayed.history.behind b f)
 
     pub record LawfulIn (q : Asked P) : Type 0 where
       pub replayed : Replayed h.berths h.copies

@@ -27,8 +27,10 @@ impl<C: Clock, P: Payload> Season<OpenCard, C, P> {
         payloads: &[P],
     ) -> Result<Season<OpenCard, C, P>, OpenError>
         ensures opened { IfOk result (Opened C.meaning berth_count payloads.now) }
-        ensures refused { within berth_count (length payloads.now) ≡ false → IsErrOf result (Refused (fault_of SizesCause)) }
-        ensures accepted { within berth_count (length payloads.now) ≡ true → IsOkUnless result OutOfMemory }
+        ensures refused { within berth_count (length payloads.now) ≡ false
+            → IsErrOf result (Refused (fault_of SizesCause)) }
+        ensures accepted { within berth_count (length payloads.now) ≡ true
+            → IsOkUnless result OutOfMemory }
     {
         if !are_within_limits(berth_count, payloads.len()) {
             return Err(OpenError::Refused(Fault::from(Cause::Sizes)));

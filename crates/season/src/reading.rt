@@ -35,7 +35,8 @@ impl<K: Card, C: Clock, P: Payload> Season<K, C, P> {
 
     /// The verdict on berth a's copy of file f against b's.
     pub fn judge(&self, a: usize, b: usize, f: usize) -> Result<Verdict, Fault>
-        ensures result { left_in result self.now [] ≡ leaves_in C.meaning P.same self.now (judge_call self.now.card a b f) }
+        ensures result { left_in result self.now []
+            ≡ leaves_in C.meaning P.same self.now (judge_call self.now.card a b f) }
         ensures edits { IfOk result (λ v. ∥ Behind C.meaning P.same self.now a b f v ∥₁) }
     {
         self.law();
@@ -50,7 +51,8 @@ impl<K: Card, C: Clock, P: Payload> Season<K, C, P> {
         a: usize,
         b: usize,
     ) -> Result<(usize, usize, usize, usize, usize), Fault>
-        ensures result { left_in result self.now bytes.new ≡ leaves_in C.meaning P.same self.now (report_call self.now.card a b bytes.old) }
+        ensures result { left_in result self.now bytes.new
+            ≡ leaves_in C.meaning P.same self.now (report_call self.now.card a b bytes.old) }
         ensures edits { OnOk result ∥ EachBehind C.meaning P.same self.now a b bytes.new ∥₁ }
     {
         self.law();
@@ -59,7 +61,8 @@ impl<K: Card, C: Clock, P: Payload> Season<K, C, P> {
 
     /// The pen of berth a and the clock of its copy of file f.
     pub fn show(&self, a: usize, f: usize) -> Result<(C::Pen, C), Fault>
-        ensures result { left_in result self.now [] ≡ leaves_in C.meaning P.same self.now (show_call self.now.card a f) }
+        ensures result { left_in result self.now []
+            ≡ leaves_in C.meaning P.same self.now (show_call self.now.card a f) }
     {
         self.law();
         show(&self.card, &self.berths, &self.copies, a, f)

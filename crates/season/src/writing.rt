@@ -32,7 +32,8 @@ impl<C: Clock, P: Payload> Season<OpenCard, C, P> {
 
     /// Working berth a gives empty berth b half of its pen, and its copies.
     pub fn fork(&mut self, a: usize, b: usize) -> Result<(), Fault>
-        ensures result { left_in result self.new [] ≡ leaves_in C.meaning P.same self.old (fork_call self.old.card a b) }
+        ensures result { left_in result self.new []
+            ≡ leaves_in C.meaning P.same self.old (fork_call self.old.card a b) }
         ensures card { self.new.card ≡ self.old.card }
     {
         self.law();
@@ -41,7 +42,8 @@ impl<C: Clock, P: Payload> Season<OpenCard, C, P> {
 
     /// Working berth a writes the payload into its copy of file f.
     pub fn edit(&mut self, a: usize, f: usize, payload: P) -> Result<(), Fault>
-        ensures result { left_in result self.new [] ≡ leaves_in C.meaning P.same self.old (edit_call self.old.card a f payload) }
+        ensures result { left_in result self.new []
+            ≡ leaves_in C.meaning P.same self.old (edit_call self.old.card a f payload) }
         ensures card { self.new.card ≡ self.old.card }
     {
         self.law();
@@ -52,7 +54,8 @@ impl<C: Clock, P: Payload> Season<OpenCard, C, P> {
     /// the verdict on b's copies against a's beforehand. Answers how many were
     /// taken, and how many files are in conflict.
     pub fn pull(&mut self, bytes: &mut [u8], a: usize, b: usize) -> Result<(usize, usize), Fault>
-        ensures result { left_in result self.new bytes.new ≡ leaves_in C.meaning P.same self.old (pull_call self.old.card a b bytes.old) }
+        ensures result { left_in result self.new bytes.new
+            ≡ leaves_in C.meaning P.same self.old (pull_call self.old.card a b bytes.old) }
         ensures edits { OnOk result ∥ EachBehind C.meaning P.same self.old b a bytes.new ∥₁ }
         ensures card { self.new.card ≡ self.old.card }
     {
@@ -62,7 +65,8 @@ impl<C: Clock, P: Payload> Season<OpenCard, C, P> {
 
     /// Working berth b ends the conflict of its copy of file f with a's.
     pub fn settle(&mut self, a: usize, b: usize, f: usize, payload: P) -> Result<(), Fault>
-        ensures result { left_in result self.new [] ≡ leaves_in C.meaning P.same self.old (settle_call self.old.card a b f payload) }
+        ensures result { left_in result self.new []
+            ≡ leaves_in C.meaning P.same self.old (settle_call self.old.card a b f payload) }
         ensures card { self.new.card ≡ self.old.card }
     {
         self.law();
@@ -71,7 +75,8 @@ impl<C: Clock, P: Payload> Season<OpenCard, C, P> {
 
     /// Working berth a hands its pen and its copies to working berth b.
     pub fn retire(&mut self, a: usize, b: usize) -> Result<(), Fault>
-        ensures result { left_in result self.new [] ≡ leaves_in C.meaning P.same self.old (retire_call self.old.card a b) }
+        ensures result { left_in result self.new []
+            ≡ leaves_in C.meaning P.same self.old (retire_call self.old.card a b) }
         ensures card { self.new.card ≡ self.old.card }
     {
         self.law();
@@ -80,7 +85,8 @@ impl<C: Clock, P: Payload> Season<OpenCard, C, P> {
 
     /// Berth a becomes empty.
     pub fn drop(&mut self, a: usize) -> Result<(), Fault>
-        ensures result { left_in result self.new [] ≡ leaves_in C.meaning P.same self.old (drop_call self.old.card a) }
+        ensures result { left_in result self.new []
+            ≡ leaves_in C.meaning P.same self.old (drop_call self.old.card a) }
         ensures card { self.new.card ≡ self.old.card }
     {
         self.law();

@@ -5,6 +5,7 @@ use Rattle.std.proofs.Math.Seq.{drop-cons}
 use Rattle.std.proofs.lemmas.List.{get_or-drop, get_or-take, length-take, length-drop, drop_all}
 use Rattle.std.proofs.lemmas.Option.{slice_get_read}
 use Rattle.std.proofs.lemmas.Bool.{cases_lt}
+use Rattle.clock.specs.declared.verdicts.Verdict.{Verdict}
 use Rattle.clock.specs.Meaning.{Meaning}
 use Rattle.history.specs.declared.tables.Record.{Record}
 use Rattle.history.specs.Tables.{against, judged}
@@ -37,26 +38,26 @@ module _ {A : Type 0} (F start n : ℕ) (cs rest : List A) (is : rest ≡ left_o
   pub none_left : length rest ≡ 0 → start + F ≤ length cs → F ≤ n
   none_left z le = let q : length (left_of F start n cs) ≡ 0 = sym (ap length is) ∙ z in omega (arith, length-drop n (take F (drop start cs)), length-take F (drop start cs), length-drop start cs)
 
--- of two berths' rows, read side by side: the records x and y of file n, and what is left after them
-pub record Pair {Pen C P : Type 0} (m : Meaning Pen C) (F a b n : ℕ) (cs : List (Record C P)) (x y : Record C P) (xs ys : List (Record C P)) : Type 0 where
+-- of two berths' rows, read side by side: the records x and y of file n, and what is left after them, from file k on
+pub record Pair {Pen C P : Type 0} (m : Meaning Pen C) (F a b n k : ℕ) (cs : List (Record C P)) (x y : Record C P) (xs ys : List (Record C P)) : Type 0 where
   pub below : n < F
   pub first : slice_get cs (a * F + n) ≡ Some x
   pub second : slice_get cs (b * F + n) ≡ Some y
-  pub verdict : against m x.clock y.clock ≡ judged m F cs a b n
-  pub first_left : xs ≡ left_of F (a * F) (n + 1) cs
-  pub second_left : ys ≡ left_of F (b * F) (n + 1) cs
+  pub verdict : (v : Verdict) → v ≡ against m x.clock y.clock → v ≡ judged m F cs a b n
+  pub first_left : xs ≡ left_of F (a * F) k cs
+  pub second_left : ys ≡ left_of F (b * F) k cs
 
-pub pair_of : {Pen C P : Type 0} (m : Meaning Pen C) (F a b n : ℕ) (cs xs ys xs' ys' : List (Record C P)) (x y : Record C P) → xs ≡ left_of F (a * F) n cs → ys ≡ left_of F (b * F) n cs → xs ≡ x ∷ xs' → ys ≡ y ∷ ys' → Pair m F a b n cs x y xs' ys'
-pair_of m F a b n cs xs ys xs' ys' x y ex ey nx ny =
+pub pair_of : {Pen C P : Type 0} (m : Meaning Pen C) (F a b n k : ℕ) (cs xs ys xs' ys' : List (Record C P)) (x y : Record C P) → k ≡ n + 1 → xs ≡ left_of F (a * F) n cs → ys ≡ left_of F (b * F) n cs → xs ≡ x ∷ xs' → ys ≡ y ∷ ys' → Pair m F a b n k cs x y xs' ys'
+pair_of m F a b n k cs xs ys xs' ys' x y ek ex ey nx ny =
     let p = next_of F (a * F) n cs xs ex x xs' nx in
     let q = next_of F (b * F) n cs ys ey y ys' ny in
     record {
       below = p.0;
       first = p.1;
       second = q.1;
-      verdict = verdict_read m F cs a b n _ _ x y refl refl p.1 q.1;
-      first_left = p.2;
-      second_left = q.2;
+      verdict = λ v is. is ∙ verdict_read m F cs a b n _ _ x y refl refl p.1 q.1;
+      first_left = p.2 ∙ ap (λ j. left_of F (a * F) j cs) (sym ek);
+      second_left = q.2 ∙ ap (λ j. left_of F (b * F) j cs) (sym ek);
     }
 
 -- a row, as the code cuts it out of the table

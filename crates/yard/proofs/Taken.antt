@@ -1,5 +1,5 @@
 -- One file is taken, or left: the loops of pull and retire.
-use Rattle.std.proofs.Common.{◌≡◌, ℕ, ◌+◌, ◌*◌, ◌<◌, Bool, true, false, cond, List, length, Some, None, Option, sym, refl, ap, ◌∙◌, ⊎_elim, add-zero, arith}
+use Rattle.std.proofs.Common.{◌≡◌, ℕ, ◌+◌, ◌-◌, ◌*◌, ◌<◌, Bool, true, false, cond, List, length, Some, None, Option, sym, refl, ap, ◌∙◌, subst, ⊎_elim, add-zero, arith}
 use Rattle.std.specs.List.{slice_get}
 use Rattle.std.proofs.lemmas.Bool.{cases_Bool, cond-true, cond-false}
 use Rattle.clock.specs.declared.verdicts.Verdict.{Verdict}
@@ -16,13 +16,16 @@ use Rattle.yard.proofs.Upto.{upto, row_rule, nth_waits, upto_set, upto_skip, rul
 abbrev pub taking : {Pen C P : Type 0} → Meaning Pen C → ℕ → ℕ → ℕ → List (Record C P) → ℕ → List (Record C P)
 taking m F a b cs n = upto (b * F + n) (row_rule F b (newer_from F cs m a b)) cs
 
-pub took_clocks : {Pen C P : Type 0} (m : Meaning Pen C) (cs : List (Record C P)) (i j : ℕ) → Clocks m cs → Clocks m (took m cs i j)
+took_clocks : {Pen C P : Type 0} (m : Meaning Pen C) (cs : List (Record C P)) (i j : ℕ) → Clocks m cs → Clocks m (took m cs i j)
 took_clocks {C = C} {P = P} m cs i j all = go (is_stale (verdict_on m cs i j)) (slice_get cs j) refl
   where
     go : (t : Bool) (o : Option (Record C P)) → slice_get cs j ≡ o → Clocks m (cond t (put_in cs i o) cs)
     go true (Some r) e = every_set (λ (r : Record C P). Yes (m.clock_made r.clock)) cs i r all (all j r e)
     go true None e = all
     go false o e = all
+
+pub taken_clocks : {Pen C P : Type 0} (m : Meaning Pen C) (cs new : List (Record C P)) (i j : ℕ) → new ≡ took m cs i j → Clocks m cs → Clocks m new
+taken_clocks {C = C} {P = P} m cs new i j e all = subst (λ (l : List (Record C P)). Clocks m l) (sym e) (took_clocks m cs i j all)
 
 module _ {Pen C P : Type 0} (m : Meaning Pen C) (F a b : ℕ) (cs : List (Record C P)) (n : ℕ) (ne : a ≡ b → ⊥) (lt : n < F) (la : a * F + n < length cs) (lb : b * F + n < length cs) where
   at_b : slice_get (taking m F a b cs n) (b * F + n) ≡ slice_get cs (b * F + n)
@@ -47,6 +50,27 @@ module _ {Pen C P : Type 0} (m : Meaning Pen C) (F a b : ℕ) (cs : List (Record
       (λ s. cond-false _ _ _ (ap is_stale verdict_taking ∙ s)
       ∙ upto_skip (row_rule F b (newer_from F cs m a b)) cs (b * F + n) x.0 x.1 (rule ∙ cond-false _ _ _ s) ∙ next)
       (cases_Bool (is_stale (judged m F cs b a n)))
+
+-- one turn of a loop over a row's places: the row begins at begin, and n of its F places are behind
+--
+-- below   a place is left
+-- is      it is place i
+-- next    the range that is left begins one further
+-- ends    and ends where the row ends
+pub record Turn (F begin n i start end : ℕ) : Type 0 where
+  pub below : n < F
+  pub is : i ≡ begin + n
+  pub next : start ≡ begin + n + 1
+  pub ends : end ≡ begin + F
+
+-- a turn, from what a range says of the place that it gives
+pub turn : (F begin n : ℕ) {start end i start' end' : ℕ} → start ≡ begin + n → end ≡ begin + F → (end' ≡ end) × ((0 < end - start) × (i ≡ start) × (start' ≡ start + 1)) → Turn F begin n i start' end'
+turn F begin n s e gives = record {
+  below = omega (arith, gives.1.0);
+  is = gives.1.1 ∙ s;
+  next = omega (arith, gives.1.2);
+  ends = gives.0 ∙ e;
+}
 
 -- the steps of the loop, as the code has them
 module _ {Pen C P : Type 0} (m : Meaning Pen C) (F a b : ℕ) (cs : List (Record C P)) (some : 0 < F) where

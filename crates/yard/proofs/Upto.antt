@@ -3,17 +3,17 @@ use Rattle.std.proofs.Common.{◌≡◌, ℕ, suc, ◌+◌, ◌-◌, ◌*◌, �
 use mathlib.Core.Path.{fun_ext}
 use Rattle.std.specs.List.{slice_get}
 use Rattle.std.proofs.lemmas.Nat.{div-mul-add, mod-mul-add, div-add-mod', mod_below}
-use Rattle.std.proofs.lemmas.Option.{slice_get_past}
+use Rattle.std.proofs.lemmas.Option.{same_Some, none-some, slice_get_past}
 use Rattle.std.proofs.lemmas.Bool.{cases_eq, cases_lt, cond-true, cond-false, eq-eqb, ne_eqb, lt-ltb, le-ltb}
 use Rattle.history.specs.declared.tables.Record.{Record}
 use Rattle.history.specs.Tables.{each, row, count}
-use Rattle.history.proofs.Lookups.{some_is, none_is_not, over, over-same, nth_each, nth_set_same, nth_set_other, length_each}
+use Rattle.history.proofs.Lookups.{over, over-same, nth_each, nth_set_same, nth_set_other, length_each}
 
 pub nth_ext : {A : Type 0} (xs ys : List A) → ((k : ℕ) → slice_get xs k ≡ slice_get ys k) → xs ≡ ys
 nth_ext [] [] h = refl
-nth_ext [] (y ∷ ys) h = absurd (none_is_not y (h 0))
-nth_ext (x ∷ xs) [] h = absurd (none_is_not x (sym (h 0)))
-nth_ext (x ∷ xs) (y ∷ ys) h = let e = some_is x y (h 0) in let r = nth_ext xs ys (λ k. h (suc k)) in (λ j. e j ∷ r j)
+nth_ext [] (y ∷ ys) h = absurd (none-some y (h 0))
+nth_ext (x ∷ xs) [] h = absurd (none-some x (sym (h 0)))
+nth_ext (x ∷ xs) (y ∷ ys) h = let e = same_Some x y (h 0) in let r = nth_ext xs ys (λ k. h (suc k)) in (λ j. e j ∷ r j)
 
 -- the first n entries by the rule
 abbrev pub upto : {A : Type 0} → ℕ → (ℕ → A → A) → List A → List A
@@ -49,7 +49,7 @@ module _ {A : Type 0} (rule : ℕ → A → A) (xs : List A) where
   upto_set n x y e q = upto_more n x e (set (upto n rule xs) n y) (nth_set_same (upto n rule xs) n y (below n e) ∙ ap Some q) (λ k ne. nth_set_other (upto n rule xs) n k y ne)
     where
       below : (n : ℕ) → slice_get xs n ≡ Some x → n < length (upto n rule xs)
-      below n e = ⊎_elim (λ lt. lt) (λ ge. absurd (none_is_not x (sym (slice_get_past xs n (omega (arith, length_each (λ i z. cond (ltb i n) (rule i z) z) xs))) ∙ e))) (cases_lt n (length (upto n rule xs)))
+      below n e = ⊎_elim (λ lt. lt) (λ ge. absurd (none-some x (sym (slice_get_past xs n (omega (arith, length_each (λ i z. cond (ltb i n) (rule i z) z) xs))) ∙ e))) (cases_lt n (length (upto n rule xs)))
 
   pub upto_skip : (n : ℕ) (x : A) → slice_get xs n ≡ Some x → rule n x ≡ x → upto n rule xs ≡ upto (n + 1) rule xs
   upto_skip n x e q = upto_more n x e (upto n rule xs) (nth_waits n n (omega arith) ∙ e ∙ ap Some (sym q)) (λ k ne. refl)

@@ -1,5 +1,5 @@
 -- Verdicts as the code reads them off records, and counts them, file by file.
-use Rattle.std.proofs.Common.{◌≡◌, ℕ, zero, suc, ◌+◌, ◌*◌, ◌<◌, ◌≤◌, Bool, true, false, cond, List, length, take, get_or, set, Some, sym, refl, ap, ◌∙◌, subst, add-one, arith}
+use Rattle.std.proofs.Common.{◌≡◌, ℕ, zero, suc, ◌+◌, ◌*◌, ◌<◌, ◌≤◌, Bool, true, false, cond, List, length, take, get_or, set, Some, sym, refl, ap, ◌∙◌, subst, add-one, arith, length-set}
 use Rattle.std.specs.Prelude.{◌==◌, count_by, nat_lt}
 use Rattle.std.proofs.lemmas.List.Sums.{count_by_more_yes, count_by_more_no}
 use Rattle.std.proofs.lemmas.Option.{get_or_from_slice_get}
@@ -33,6 +33,14 @@ reported_more n v bytes now y lt e ey = let x = entry bytes n lt in ap (λ (l : 
 -- the same, where f and m are the file and one more
 pub told_more : (n m f : ℕ) (v : ℕ → Verdict) (bytes now : List ℕ) (y : ℕ) (w : Verdict) → f ≡ n → m ≡ n + 1 → n < length bytes → now ≡ reported n v bytes → y ≡ byte_of w → w ≡ v n → set now f y ≡ reported m v bytes
 told_more n m f v bytes now y w ef em lt e ey ew = ap (λ k. set now k y) ef ∙ reported_more n v bytes now y lt e (ey ∙ ap byte_of ew) ∙ ap (λ k. reported k v bytes) (sym em)
+
+-- a byte written leaves the buffer's length
+pub told_length : (bytes now : List ℕ) (f y : ℕ) → length now ≡ length bytes → length (set now f y) ≡ length bytes
+told_length bytes now f y e = length-set now f y ∙ e
+
+-- the same, once every file is told
+pub told_all : (F n : ℕ) (v : ℕ → Verdict) (bytes now : List ℕ) → n ≡ F → now ≡ reported n v bytes → now ≡ reported F v bytes
+told_all F n v bytes now e is = is ∙ ap (λ k. reported k v bytes) e
 
 pub reported-none : (v : ℕ → Verdict) (bytes : List ℕ) → bytes ≡ reported 0 v bytes
 reported-none v bytes = sym (upto-none (λ f z. byte_of (v f)) bytes)

@@ -2,7 +2,7 @@
 --
 -- verdict_on i j   the verdict on record i against record j
 -- took i j         record i replaced by record j where it is stale against it
-use Rattle.std.specs.Prelude.{ℕ, cond, List, Some, None, Option, slice_set}
+use Rattle.std.specs.Prelude.{ℕ, if◌then◌else◌, List, Some, None, Option, slice_set}
 use Rattle.std.specs.List.{slice_get}
 use Rattle.clock.specs.declared.verdicts.Verdict.{Verdict}
 use Rattle.clock.specs.Meaning.{Meaning}
@@ -19,4 +19,4 @@ module _ {Pen C P : Type 0} (m : Meaning Pen C) (cs : List (Record C P)) where
   verdict_on i j = against m (clock_in m (slice_get cs i)) (clock_in m (slice_get cs j))
 
   abbrev pub took : ℕ → ℕ → List (Record C P)
-  took i j = cond (is_stale (verdict_on i j)) (put_in cs i (slice_get cs j)) cs
+  took i j = if is_stale (verdict_on i j) then put_in cs i (slice_get cs j) else cs

@@ -6,7 +6,7 @@ use history::{Berth, Record, State};
 
 /// An empty berth, to lay out a berth table with.
 pub fn blank_berth<C: Clock>() -> Berth<C::Pen>
-    ensures { result ≡ empty_berth C.Clock.meaning }
+    ensures { result ≡ empty_berth C.meaning }
 {
     Berth {
         state: State::Empty,
@@ -16,7 +16,7 @@ pub fn blank_berth<C: Clock>() -> Berth<C::Pen>
 
 /// A copy with the empty clock and this payload, to lay out a copy table with.
 pub fn blank_copy<C: Clock, P: Copy>(payload: P) -> Record<C, P>
-    ensures { result ≡ record { clock = C.Clock.meaning.blank; payload = payload } }
+    ensures { result ≡ record { clock = C.meaning.blank; payload = payload } }
 {
     Record {
         clock: C::blank(),

@@ -33,7 +33,8 @@ pub fn read<K: Card, C: Clock, P: Payload>(
 ) -> Result<Answer<C::Pen, C>, Fault>
     requires made { Made C.meaning berths.now copies.now }
     ensures result { let q = asked (K.sizes card.now) (Reads call) bytes.old in
-        left result berths.now copies.now bytes.new ≡ said C.meaning P.same q berths.now copies.now }
+        left result berths.now copies.now bytes.new
+        ≡ said C.meaning P.same q berths.now copies.now }
     ensures history { let q = asked (K.sizes card.now) (Reads call) bytes.old in
         LawfulCall C.meaning P.same q berths.now copies.now
         (leaves C.meaning P.same q berths.now copies.now) }
@@ -50,7 +51,8 @@ fn read_call<K: Card, C: Clock, P: Payload>(
 ) -> Result<Answer<C::Pen, C>, Fault>
     requires made { Made C.meaning berths.now copies.now }
     ensures { let q = asked (K.sizes card.now) (Reads call) bytes.old in
-        left result berths.now copies.now bytes.new ≡ said C.meaning P.same q berths.now copies.now }
+        left result berths.now copies.now bytes.new
+        ≡ said C.meaning P.same q berths.now copies.now }
 {
     match call {
         Reading::Judge { a, b, f } => judged(judge(card, berths, copies, a, b, f)),
@@ -70,7 +72,8 @@ pub fn write<C: Clock, P: Payload>(
 ) -> Result<Answer<C::Pen, C>, Fault>
     requires made { Made C.meaning berths.old copies.old }
     ensures result { let q = asked card.now (Writes call) bytes.old in
-        left result berths.new copies.new bytes.new ≡ said C.meaning P.same q berths.old copies.old }
+        left result berths.new copies.new bytes.new
+        ≡ said C.meaning P.same q berths.old copies.old }
     ensures made { Made C.meaning berths.new copies.new }
     ensures history { let q = asked card.now (Writes call) bytes.old in
         LawfulCall C.meaning P.same q berths.old copies.old
@@ -88,7 +91,8 @@ fn write_call<C: Clock, P: Payload>(
 ) -> Result<Answer<C::Pen, C>, Fault>
     requires made { Made C.meaning berths.old copies.old }
     ensures { let q = asked card.now (Writes call) bytes.old in
-        left result berths.new copies.new bytes.new ≡ said C.meaning P.same q berths.old copies.old }
+        left result berths.new copies.new bytes.new
+        ≡ said C.meaning P.same q berths.old copies.old }
 {
     match call {
         Writing::Fork { a, b } => done(fork(card, berths, copies, a, b)),

@@ -1,11 +1,11 @@
-ghost use Rattle.std.specs.Prelude.{◌≡◌, ◌+◌, ◌*◌, ◌<◌, ◌≤◌};
+ghost use Rattle.std.specs.Prelude.{◌≡◌, ◌+◌, ◌*◌, ◌<◌, ◌≤◌, [], ◌∷◌};
 ghost use Rattle.clock.specs.Answers.{due};
 ghost use Rattle.history.specs.Tables.{working};
 ghost use Rattle.history.specs.Checks.{wrong_sizes, no_berth, no_file, same_berth, not_working, not_empty, short_buffer};
-ghost use Rattle.yard.specs.Passing.{passing};
+ghost use Rattle.yard.specs.Passing.{passing, all_pass};
 
 use clock::{Cause, Fault};
-use history::{Berth, Sizes, State};
+use history::{Berth, Record, Sizes, State};
 use std::ops::Range;
 
 /// Refuses where the refusal is due.
@@ -15,7 +15,10 @@ pub fn refuse_if(is_due: bool, fault: Fault) -> Result<(), Fault>
     if is_due { Err(fault) } else { Ok(()) }
 }
 
-// The two tables are two parameters, and no struct: a call borrows for writing only the table that it writes.
+// The two tables are two parameters, and no struct: a call borrows for writing only the table that
+// it writes. Two berths, or a berth and a file, are no one thing either. `Ready` ties two berths, the
+// sizes and a lent table: no one value holds them, and a struct of them would have a maker for each
+// call, with the proof that the call's own checks give it.
 
 /// 1: the tables are of the card's sizes, which are within the limits.
 pub fn check_sizes<X, Y>(sizes: Sizes, berths: &[X], copies: &[Y]) -> Result<(), Fault>
@@ -28,8 +31,8 @@ pub fn check_sizes<X, Y>(sizes: Sizes, berths: &[X], copies: &[Y]) -> Result<(),
     refuse_if(!fit, Cause::Sizes.into())
 }
 
-// `check_berth` and `check_file` differ in which number and which place, the two below in the state that is wanted:
-// one line each over `refuse_if`, and each a refusal of its own.
+// `check_berth` and `check_file` differ in which number and which place, the two below in the state
+// that is wanted: one line each over `refuse_if`, and each a refusal of its own.
 
 /// 2: there is such a berth.
 pub fn check_berth(sizes: Sizes, a: usize) -> Result<(), Fault>
@@ -78,6 +81,23 @@ pub fn check_empty<Q>(berths: &[Berth<Q>], b: usize) -> Result<(), Fault>
     refuse_if(works(berths, b), Fault::from(Cause::WrongState).at_berth(b))
 }
 
+/// 1, 2, 3, 5: there is a copy of file f in berth a, which is in use.
+pub fn check_copy<Q, C, P>(
+    sizes: Sizes,
+    berths: &[Berth<Q>],
+    copies: &[Record<C, P>],
+    a: usize,
+    f: usize,
+) -> Result<(), Fault>
+    ensures { result ≡ all_pass (wrong_sizes sizes berths.now copies.now ∷ no_berth sizes a
+        ∷ no_file sizes f ∷ not_working berths.now a ∷ []) }
+{
+    check_sizes(sizes, berths, copies)?;
+    check_berth(sizes, a)?;
+    check_file(sizes, f)?;
+    check_working(berths, a)
+}
+
 /// 6: the buffer has a byte for each file.
 pub fn check_buffer(sizes: Sizes, bytes: &[u8]) -> Result<(), Fault>
     ensures { result ≡ passing (short_buffer sizes bytes.now) }
@@ -98,7 +118,8 @@ pub fn row(sizes: Sizes, a: usize) -> Range<usize>
 
 /// The record of berth a and file f.
 pub fn place(sizes: Sizes, a: usize, f: usize) -> usize
-    requires { (a < sizes.berths) × ((sizes.berths ≤ 16) × ((f < sizes.files) × (sizes.files ≤ 32))) }
+    requires { (a < sizes.berths) × ((sizes.berths ≤ 16)
+        × ((f < sizes.files) × (sizes.files ≤ 32))) }
     ensures is { result ≡ a * sizes.files + f }
     ensures within { result < sizes.berths * sizes.files }
 {

@@ -1,8 +1,7 @@
 ghost use Rattle.std.specs.Prelude.{◌≡◌, []};
 ghost use Rattle.history.specs.Tables.{Made};
 ghost use Rattle.history.specs.Checks.{left};
-ghost use Rattle.history.specs.Drop.{drop_checks, drop_result};
-ghost use Rattle.history.specs.Drop.{drop_call};
+ghost use Rattle.history.specs.Drop.{drop_checks, drop_result, drop_call};
 ghost use Rattle.history.specs.Law.{LawfulAt};
 ghost use Rattle.yard.specs.Passing.{all_pass};
 
@@ -12,9 +11,6 @@ use crate::checks::{check_berth, check_sizes, check_working};
 use crate::open_card::OpenCard;
 use clock::{Clock, Fault};
 use history::{Berth, Record, Sizes};
-
-// The pens and clocks of the tables are plain data with no invariant in their types, a rule of the project: so `made`,
-// and what it says of one table, stands on each contract. Two berths, or a berth and a file, are no one thing.
 
 fn check_drop<Q, C, P>(
     sizes: Sizes,
@@ -36,8 +32,9 @@ fn drop_berth<C: Clock, P: Copy>(
     copies: &[Record<C, P>],
     a: usize,
 ) -> Result<(), Fault>
-    requires made { Made C.Clock.meaning berths.old copies.now }
-    ensures { left result berths.new copies.now [] ≡ drop_result C.Clock.meaning sizes berths.old copies.now a }
+    requires made { Made C.meaning berths.old copies.now }
+    ensures { left result berths.new copies.now []
+        ≡ drop_result C.meaning sizes berths.old copies.now a }
 {
     check_drop(sizes, berths, copies, a)?;
     berths[a] = blank_berth::<C>();
@@ -52,10 +49,12 @@ pub fn drop<C: Clock, P: Copy>(
     copies: &[Record<C, P>],
     a: usize,
 ) -> Result<(), Fault>
-    requires made { Made C.Clock.meaning berths.old copies.now }
-    ensures result { left result berths.new copies.now [] ≡ drop_result C.Clock.meaning card.now berths.old copies.now a }
-    ensures made { Made C.Clock.meaning berths.new copies.now }
-    ensures history { LawfulAt C.Clock.meaning (drop_call card.now a) berths.old copies.now (left result berths.new copies.now []) }
+    requires made { Made C.meaning berths.old copies.now }
+    ensures result { left result berths.new copies.now []
+        ≡ drop_result C.meaning card.now berths.old copies.now a }
+    ensures made { Made C.meaning berths.new copies.now }
+    ensures history { LawfulAt C.meaning (drop_call card.now a) berths.old copies.now
+        (left result berths.new copies.now []) }
 {
     drop_berth(card.sizes(), berths, copies, a)
 }

@@ -1,8 +1,7 @@
 ghost use Rattle.std.specs.Prelude.{◌≡◌, [], length, ◌≢◌};
 ghost use Rattle.history.specs.Tables.{Made, row, copy_from};
 ghost use Rattle.history.specs.Checks.{left};
-ghost use Rattle.history.specs.Fork.{fork_plain, fork_result};
-ghost use Rattle.history.specs.Fork.{fork_call};
+ghost use Rattle.history.specs.Fork.{fork_plain, fork_result, fork_call};
 ghost use Rattle.history.specs.Law.{LawfulAt};
 ghost use Rattle.yard.specs.Passing.{all_pass};
 ghost use Rattle.yard.specs.Ready.{Ready};
@@ -13,11 +12,6 @@ use crate::open_card::OpenCard;
 use crate::places::Place;
 use clock::{Clock, Fault};
 use history::{Berth, Record, Sizes};
-
-// The pens and clocks of the tables are plain data with no invariant in their types, a rule of the project: so `made`,
-// and what it says of one table, stands on each contract. Two berths, or a berth and a file, are no one thing.
-// `Ready` ties two berths, the sizes and a lent table: no one value holds them, and a struct of them would have a
-// maker for each call, with the proof that the call's own checks give it.
 
 fn check_fork<Q, C, P>(
     sizes: Sizes,
@@ -38,7 +32,7 @@ fn check_fork<Q, C, P>(
 
 // Berth b gets a's copies.
 fn copy_files<C: Copy, P: Copy>(sizes: Sizes, copies: &mut [Record<C, P>], a: usize, b: usize)
-    requires { (Ready sizes sizes.berths (length copies.old) a b) × ((a ≢ b)) }
+    requires { (Ready sizes sizes.berths (length copies.old) a b) × (a ≢ b) }
     ensures { copies.new ≡ row sizes.files copies.old b (copy_from sizes.files copies.old a) }
 {
     copies.copy_within(row(sizes, a), row(sizes, b).start);
@@ -52,8 +46,9 @@ fn fork_berth<C: Clock, P: Copy>(
     a: usize,
     b: usize,
 ) -> Result<(), Fault>
-    requires made { Made C.Clock.meaning berths.old copies.old }
-    ensures { left result berths.new copies.new [] ≡ fork_result C.Clock.meaning sizes berths.old copies.old a b }
+    requires made { Made C.meaning berths.old copies.old }
+    ensures { left result berths.new copies.new []
+        ≡ fork_result C.meaning sizes berths.old copies.old a b }
 {
     check_fork(sizes, berths, copies, a, b)?;
     let halves = C::fork(&berths[a].pen).at_berth(a)?;
@@ -73,10 +68,12 @@ pub fn fork<C: Clock, P: Copy>(
     a: usize,
     b: usize,
 ) -> Result<(), Fault>
-    requires made { Made C.Clock.meaning berths.old copies.old }
-    ensures result { left result berths.new copies.new [] ≡ fork_result C.Clock.meaning card.now berths.old copies.old a b }
-    ensures made { Made C.Clock.meaning berths.new copies.new }
-    ensures history { LawfulAt C.Clock.meaning (fork_call card.now a b) berths.old copies.old (left result berths.new copies.new []) }
+    requires made { Made C.meaning berths.old copies.old }
+    ensures result { left result berths.new copies.new []
+        ≡ fork_result C.meaning card.now berths.old copies.old a b }
+    ensures made { Made C.meaning berths.new copies.new }
+    ensures history { LawfulAt C.meaning (fork_call card.now a b) berths.old copies.old
+        (left result berths.new copies.new []) }
 {
     fork_berth(card.sizes(), berths, copies, a, b)
 }

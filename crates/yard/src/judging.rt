@@ -1,8 +1,7 @@
 ghost use Rattle.std.specs.Prelude.{◌≡◌, []};
 ghost use Rattle.history.specs.Tables.{Made};
 ghost use Rattle.history.specs.Checks.{left};
-ghost use Rattle.history.specs.Judge.{judge_checks, judge_result};
-ghost use Rattle.history.specs.Judge.{judge_call};
+ghost use Rattle.history.specs.Judge.{judge_checks, judge_result, judge_call};
 ghost use Rattle.history.specs.Law.{LawfulAt};
 ghost use Rattle.yard.specs.Passing.{all_pass};
 
@@ -10,9 +9,6 @@ use crate::cards::Card;
 use crate::checks::{check_berth, check_file, check_sizes, check_working, place};
 use clock::{Clock, Fault, Verdict};
 use history::{Berth, Record, Sizes};
-
-// The pens and clocks of the tables are plain data with no invariant in their types, a rule of the project: so `made`,
-// and what it says of one table, stands on each contract. Two berths, or a berth and a file, are no one thing.
 
 fn check_judge<Q, C, P>(
     sizes: Sizes,
@@ -40,8 +36,9 @@ fn judge_copies<C: Clock, P: Copy>(
     b: usize,
     f: usize,
 ) -> Result<Verdict, Fault>
-    requires { Made C.Clock.meaning berths.now copies.now }
-    ensures { left result berths.now copies.now [] ≡ judge_result C.Clock.meaning sizes berths.now copies.now a b f }
+    requires { Made C.meaning berths.now copies.now }
+    ensures { left result berths.now copies.now []
+        ≡ judge_result C.meaning sizes berths.now copies.now a b f }
 {
     check_judge(sizes, berths, copies, a, b, f)?;
     let i = place(sizes, a, f);
@@ -60,9 +57,11 @@ pub fn judge<K: Card, C: Clock, P: Copy>(
     b: usize,
     f: usize,
 ) -> Result<Verdict, Fault>
-    requires made { Made C.Clock.meaning berths.now copies.now }
-    ensures result { left result berths.now copies.now [] ≡ judge_result C.Clock.meaning (K.Card.sizes card.now) berths.now copies.now a b f }
-    ensures history { LawfulAt C.Clock.meaning (judge_call (K.Card.sizes card.now) a b f) berths.now copies.now (left result berths.now copies.now []) }
+    requires made { Made C.meaning berths.now copies.now }
+    ensures result { left result berths.now copies.now []
+        ≡ judge_result C.meaning (K.sizes card.now) berths.now copies.now a b f }
+    ensures history { LawfulAt C.meaning (judge_call (K.sizes card.now) a b f) berths.now copies.now
+        (left result berths.now copies.now []) }
 {
     judge_copies(card.sizes(), berths, copies, a, b, f)
 }

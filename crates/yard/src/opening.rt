@@ -12,7 +12,8 @@ use history::{Berth, Record, Sizes};
 
 // Berth 0 works with the seed pen, the others are empty.
 fn opening_berth<C: Clock>(b: usize) -> Berth<C::Pen>
-    ensures { result ≡ (if nat_eq b 0 then working_berth C.Clock.meaning.seed else empty_berth C.Clock.meaning) }
+    ensures { result
+        ≡ (if nat_eq b 0 then working_berth C.meaning.seed else empty_berth C.meaning) }
 {
     if b == 0 {
         Berth::working(C::seed())
@@ -22,7 +23,7 @@ fn opening_berth<C: Clock>(b: usize) -> Berth<C::Pen>
 }
 
 fn open_berths<C: Clock>(berths: &mut [Berth<C::Pen>])
-    ensures { berths.new ≡ opened_berths C.Clock.meaning berths.old }
+    ensures { berths.new ≡ opened_berths C.meaning berths.old }
 {
     for (b, berth) in berths.iter_mut().enumerate() {
         *berth = opening_berth::<C>(b);
@@ -32,7 +33,7 @@ fn open_berths<C: Clock>(berths: &mut [Berth<C::Pen>])
 // Each record of file f gets the empty clock and payload f.
 fn open_copies<C: Clock, P: Copy>(copies: &mut [Record<C, P>], payloads: &[P])
     requires { 0 < length payloads.now }
-    ensures { copies.new ≡ opened_copies C.Clock.meaning payloads.now copies.old }
+    ensures { copies.new ≡ opened_copies C.meaning payloads.now copies.old }
 {
     for (i, copy) in copies.iter_mut().enumerate() {
         let f = i % payloads.len();
@@ -52,9 +53,10 @@ pub fn open<C: Clock, P: Copy>(
     copies: &mut [Record<C, P>],
     payloads: &[P],
 ) -> Result<OpenCard, Fault>
-    ensures result { left result berths.new copies.new [] ≡ open_result C.Clock.meaning berths.old copies.old payloads.now }
-    ensures made { OnOk result (Made C.Clock.meaning berths.new copies.new) }
-    ensures history { LawfulOpen C.Clock.meaning payloads.now (left result berths.new copies.new []) }
+    ensures result { left result berths.new copies.new []
+        ≡ open_result C.meaning berths.old copies.old payloads.now }
+    ensures made { OnOk result (Made C.meaning berths.new copies.new) }
+    ensures history { LawfulOpen C.meaning payloads.now (left result berths.new copies.new []) }
 {
     let sizes = Sizes {
         berths: berths.len(),

@@ -1,25 +1,20 @@
 ghost use Rattle.std.specs.Prelude.{◌≡◌, ◌≤◌, length, ◌≢◌};
-ghost use Rattle.history.specs.Tables.{Made, row, newer_from, judged, reported, count, is_stale, is_conflict};
+ghost use Rattle.history.specs.Tables.{Made, row, newer_from, judged, reported, count};
+ghost use Rattle.history.specs.Tables.{is_stale, is_conflict};
 ghost use Rattle.history.specs.Checks.{left};
-ghost use Rattle.history.specs.Pull.{pull_checks, pull_result};
-ghost use Rattle.history.specs.Pull.{pull_call};
+ghost use Rattle.history.specs.Pull.{pull_checks, pull_result, pull_call};
 ghost use Rattle.history.specs.Law.{LawfulAt};
 ghost use Rattle.yard.specs.Passing.{all_pass};
 ghost use Rattle.yard.specs.Ready.{Ready};
 ghost use Rattle.yard.specs.Entries.{Clocks};
 
 use crate::cards::Card;
-use crate::checks::{check_berth, check_buffer, check_sizes, check_two, check_working, row};
+use crate::checks::{check_buffer, row};
 use crate::counting::count_verdict;
 use crate::open_card::OpenCard;
-use crate::taking::take_newer;
+use crate::taking::{check_two_working, take_newer};
 use clock::{Clock, Fault, Verdict};
 use history::{Berth, Record, Sizes};
-
-// `Ready` ties two berths, the sizes and a lent table: no one value holds them, and a struct of them would have a
-// maker for each call, with the proof that the call's own checks give it.
-// The pens and clocks of the tables are plain data with no invariant in their types, a rule of the project: so `made`,
-// and what it says of one table, stands on each contract. Two berths, or a berth and a file, are no one thing.
 
 fn check_pull<Q, C, P>(
     sizes: Sizes,
@@ -31,17 +26,12 @@ fn check_pull<Q, C, P>(
 ) -> Result<(), Fault>
     ensures { result ≡ all_pass (pull_checks sizes berths.now copies.now a b bytes.now) }
 {
-    check_sizes(sizes, berths, copies)?;
-    check_berth(sizes, a)?;
-    check_berth(sizes, b)?;
-    check_two(a, b)?;
-    check_working(berths, a)?;
-    check_working(berths, b)?;
+    check_two_working(sizes, berths, copies, a, b)?;
     check_buffer(sizes, bytes)
 }
 
-// A pair of counts: a rule of the project. The places of both rows, since they lie in one table that is lent for
-// writing; `bytes[f]`, and no zip with `iter_mut`: after that the check knows nothing of the bytes.
+// The places of both rows, as in `take_files`. `bytes[f]`, and no zip with `iter_mut`: after that the
+// check knows nothing of the bytes.
 fn pull_files<C: Clock, P: Copy>(
     sizes: Sizes,
     copies: &mut [Record<C, P>],
@@ -49,12 +39,17 @@ fn pull_files<C: Clock, P: Copy>(
     a: usize,
     b: usize,
 ) -> (usize, usize)
-    requires ready { (Ready sizes sizes.berths (length copies.old) a b) × (((a ≢ b)) × (sizes.files ≤ length bytes.old)) }
-    requires made { Clocks C.Clock.meaning copies.old }
-    ensures copies { copies.new ≡ row sizes.files copies.old b (newer_from sizes.files copies.old C.Clock.meaning a b) }
-    ensures bytes { bytes.new ≡ reported sizes.files (judged C.Clock.meaning sizes.files copies.old b a) bytes.old }
-    ensures taken { result.0 ≡ count sizes.files (λ f. is_stale (judged C.Clock.meaning sizes.files copies.old b a f)) }
-    ensures conflicts { result.1 ≡ count sizes.files (λ f. is_conflict (judged C.Clock.meaning sizes.files copies.old b a f)) }
+    requires ready { (Ready sizes sizes.berths (length copies.old) a b)
+        × ((a ≢ b) × (sizes.files ≤ length bytes.old)) }
+    requires made { Clocks C.meaning copies.old }
+    ensures copies { copies.new
+        ≡ row sizes.files copies.old b (newer_from sizes.files copies.old C.meaning a b) }
+    ensures bytes { bytes.new
+        ≡ reported sizes.files (judged C.meaning sizes.files copies.old b a) bytes.old }
+    ensures taken { result.0
+        ≡ count sizes.files (λ f. is_stale (judged C.meaning sizes.files copies.old b a f)) }
+    ensures conflicts { result.1
+        ≡ count sizes.files (λ f. is_conflict (judged C.meaning sizes.files copies.old b a f)) }
 {
     for (f, (i, j)) in row(sizes, b).zip(row(sizes, a)).enumerate() {
         bytes[f] = take_newer(copies, i, j).into();
@@ -74,8 +69,9 @@ fn pull_copies<C: Clock, P: Copy>(
     a: usize,
     b: usize,
 ) -> Result<(usize, usize), Fault>
-    requires made { Made C.Clock.meaning berths.now copies.old }
-    ensures { left result berths.now copies.new bytes.new ≡ pull_result C.Clock.meaning sizes berths.now copies.old a b bytes.old }
+    requires made { Made C.meaning berths.now copies.old }
+    ensures { left result berths.now copies.new bytes.new
+        ≡ pull_result C.meaning sizes berths.now copies.old a b bytes.old }
 {
     check_pull(sizes, berths, copies, bytes, a, b)?;
     Ok(pull_files(sizes, copies, bytes, a, b))
@@ -93,10 +89,12 @@ pub fn pull<C: Clock, P: Copy>(
     a: usize,
     b: usize,
 ) -> Result<(usize, usize), Fault>
-    requires made { Made C.Clock.meaning berths.now copies.old }
-    ensures result { left result berths.now copies.new bytes.new ≡ pull_result C.Clock.meaning card.now berths.now copies.old a b bytes.old }
-    ensures made { Made C.Clock.meaning berths.now copies.new }
-    ensures history { LawfulAt C.Clock.meaning (pull_call card.now a b bytes.old) berths.now copies.old (left result berths.now copies.new bytes.new) }
+    requires made { Made C.meaning berths.now copies.old }
+    ensures result { left result berths.now copies.new bytes.new
+        ≡ pull_result C.meaning card.now berths.now copies.old a b bytes.old }
+    ensures made { Made C.meaning berths.now copies.new }
+    ensures history { LawfulAt C.meaning (pull_call card.now a b bytes.old) berths.now copies.old
+        (left result berths.now copies.new bytes.new) }
 {
     pull_copies(card.sizes(), berths, copies, bytes, a, b)
 }

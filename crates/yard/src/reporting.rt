@@ -1,8 +1,8 @@
 ghost use Rattle.std.specs.Prelude.{◌≡◌, ◌≤◌, length};
 ghost use Rattle.history.specs.Tables.{Made, judged, reported};
 ghost use Rattle.history.specs.Checks.{left};
-ghost use Rattle.history.specs.Report.{report_checks, report_result, counts, twins as twins_of};
-ghost use Rattle.history.specs.Report.{report_call};
+ghost use Rattle.history.specs.Report.{report_checks, report_result, report_call};
+ghost use Rattle.history.specs.Report.{counts, twins as twins_of};
 ghost use Rattle.history.specs.Law.{LawfulCall};
 ghost use Rattle.yard.specs.Passing.{all_pass};
 ghost use Rattle.yard.specs.Ready.{Ready};
@@ -14,11 +14,6 @@ use crate::counting::count_verdict;
 use clock::{Clock, Fault, Verdict};
 use history::{Berth, Record, Sizes};
 use payload::Payload;
-
-// The pens and clocks of the tables are plain data with no invariant in their types, a rule of the project: so `made`,
-// and what it says of one table, stands on each contract. Two berths, or a berth and a file, are no one thing.
-// `Ready` ties two berths, the sizes and a lent table: no one value holds them, and a struct of them would have a
-// maker for each call, with the proof that the call's own checks give it.
 
 fn check_report<Q, C, P>(
     sizes: Sizes,
@@ -38,8 +33,7 @@ fn check_report<Q, C, P>(
     check_buffer(sizes, bytes)
 }
 
-// Five counts as a tuple: a rule of the project. `bytes[f]`, and no zip with `iter_mut`: after that the check knows
-// nothing of the bytes.
+// `bytes[f]`, and no zip with `iter_mut`: after that the check knows nothing of the bytes.
 fn report_files<C: Clock, P: Payload>(
     sizes: Sizes,
     copies: &[Record<C, P>],
@@ -47,10 +41,14 @@ fn report_files<C: Clock, P: Payload>(
     a: usize,
     b: usize,
 ) -> (usize, usize, usize, usize, usize)
-    requires ready { (Ready sizes sizes.berths (length copies.now) a b) × (sizes.files ≤ length bytes.old) }
-    requires made { Clocks C.Clock.meaning copies.now }
-    ensures bytes { bytes.new ≡ reported sizes.files (judged C.Clock.meaning sizes.files copies.now a b) bytes.old }
-    ensures counts { result ≡ counts sizes.files (judged C.Clock.meaning sizes.files copies.now a b) (twins_of sizes.files copies.now P.Payload.same a b) }
+    requires ready { (Ready sizes sizes.berths (length copies.now) a b)
+        × (sizes.files ≤ length bytes.old) }
+    requires made { Clocks C.meaning copies.now }
+    ensures bytes { bytes.new
+        ≡ reported sizes.files (judged C.meaning sizes.files copies.now a b) bytes.old }
+    ensures counts { result
+        ≡ counts sizes.files (judged C.meaning sizes.files copies.now a b)
+        (twins_of sizes.files copies.now P.same a b) }
 {
     let mut twins = 0;
     let pairs = copies[row(sizes, a)].iter().zip(&copies[row(sizes, b)]);
@@ -77,8 +75,9 @@ fn report_copies<C: Clock, P: Payload>(
     a: usize,
     b: usize,
 ) -> Result<(usize, usize, usize, usize, usize), Fault>
-    requires { Made C.Clock.meaning berths.now copies.now }
-    ensures { left result berths.now copies.now bytes.new ≡ report_result C.Clock.meaning sizes berths.now copies.now P.Payload.same a b bytes.old }
+    requires { Made C.meaning berths.now copies.now }
+    ensures { left result berths.now copies.now bytes.new
+        ≡ report_result C.meaning sizes berths.now copies.now P.same a b bytes.old }
 {
     check_report(sizes, berths, copies, bytes, a, b)?;
     Ok(report_files(sizes, copies, bytes, a, b))
@@ -96,9 +95,11 @@ pub fn report<K: Card, C: Clock, P: Payload>(
     a: usize,
     b: usize,
 ) -> Result<(usize, usize, usize, usize, usize), Fault>
-    requires made { Made C.Clock.meaning berths.now copies.now }
-    ensures result { left result berths.now copies.now bytes.new ≡ report_result C.Clock.meaning (K.Card.sizes card.now) berths.now copies.now P.Payload.same a b bytes.old }
-    ensures history { LawfulCall C.Clock.meaning P.Payload.same (report_call (K.Card.sizes card.now) a b bytes.old) berths.now copies.now (left result berths.now copies.now bytes.new) }
+    requires made { Made C.meaning berths.now copies.now }
+    ensures result { left result berths.now copies.now bytes.new
+        ≡ report_result C.meaning (K.sizes card.now) berths.now copies.now P.same a b bytes.old }
+    ensures history { LawfulCall C.meaning P.same (report_call (K.sizes card.now) a b bytes.old)
+        berths.now copies.now (left result berths.now copies.now bytes.new) }
 {
     report_copies(card.sizes(), berths, copies, bytes, a, b)
 }

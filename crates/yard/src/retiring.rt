@@ -2,8 +2,7 @@ ghost use Rattle.std.specs.Prelude.{◌≡◌, ◌<◌, [], ◌∷◌, ◌++◌,
 ghost use Rattle.clock.specs.Answers.{answered};
 ghost use Rattle.history.specs.Tables.{pen_at, working_berth, empty_berth, Made};
 ghost use Rattle.history.specs.Checks.{left, some_conflict};
-ghost use Rattle.history.specs.Retire.{retire_plain, retire_result};
-ghost use Rattle.history.specs.Retire.{retire_call};
+ghost use Rattle.history.specs.Retire.{retire_plain, retire_result, retire_call};
 ghost use Rattle.history.specs.Law.{LawfulAt};
 ghost use Rattle.yard.specs.Passing.{passing, all_pass};
 ghost use Rattle.yard.specs.Ready.{Ready};
@@ -11,34 +10,12 @@ ghost use Rattle.yard.specs.Entries.{Clocks, Pens};
 
 use crate::blanks::blank_berth;
 use crate::cards::Card;
-use crate::checks::{check_berth, check_sizes, check_two, check_working, row};
+use crate::checks::row;
 use crate::open_card::OpenCard;
 use crate::places::Place;
-use crate::taking::take_files;
+use crate::taking::{check_two_working, take_files};
 use clock::{Cause, Clock, Fault, Verdict};
 use history::{Berth, Record, Sizes};
-
-// The pens and clocks of the tables are plain data with no invariant in their types, a rule of the project: so `made`,
-// and what it says of one table, stands on each contract. Two berths, or a berth and a file, are no one thing.
-// `Ready` ties two berths, the sizes and a lent table: no one value holds them, and a struct of them would have a
-// maker for each call, with the proof that the call's own checks give it.
-
-fn check_two_working<Q, C, P>(
-    sizes: Sizes,
-    berths: &[Berth<Q>],
-    copies: &[Record<C, P>],
-    a: usize,
-    b: usize,
-) -> Result<(), Fault>
-    ensures { result ≡ all_pass (retire_plain sizes berths.now copies.now a b) }
-{
-    check_sizes(sizes, berths, copies)?;
-    check_berth(sizes, a)?;
-    check_berth(sizes, b)?;
-    check_two(a, b)?;
-    check_working(berths, a)?;
-    check_working(berths, b)
-}
 
 // 8: no file is in conflict.
 fn check_calm<C: Clock, P: Copy>(
@@ -48,8 +25,8 @@ fn check_calm<C: Clock, P: Copy>(
     b: usize,
 ) -> Result<(), Fault>
     requires ready { Ready sizes sizes.berths (length copies.now) a b }
-    requires made { Clocks C.Clock.meaning copies.now }
-    ensures { result ≡ passing (some_conflict C.Clock.meaning sizes.files copies.now a b) }
+    requires made { Clocks C.meaning copies.now }
+    ensures { result ≡ passing (some_conflict C.meaning sizes.files copies.now a b) }
 {
     let pairs = copies[row(sizes, b)].iter().zip(&copies[row(sizes, a)]);
     for (f, (ours, theirs)) in pairs.enumerate() {
@@ -67,8 +44,9 @@ fn check_retire<C: Clock, P: Copy>(
     a: usize,
     b: usize,
 ) -> Result<(), Fault>
-    requires { Clocks C.Clock.meaning copies.now }
-    ensures { result ≡ all_pass (retire_plain sizes berths.now copies.now a b ++ (some_conflict C.Clock.meaning sizes.files copies.now a b ∷ [])) }
+    requires { Clocks C.meaning copies.now }
+    ensures { result ≡ all_pass (retire_plain sizes berths.now copies.now a b
+        ++ (some_conflict C.meaning sizes.files copies.now a b ∷ [])) }
 {
     check_two_working(sizes, berths, copies, a, b)?;
     check_calm(sizes, copies, a, b)
@@ -76,8 +54,10 @@ fn check_retire<C: Clock, P: Copy>(
 
 fn united_pen<C: Clock>(berths: &[Berth<C::Pen>], a: usize, b: usize) -> Result<C::Pen, Fault>
     requires berths { (a < length berths.now) × (b < length berths.now) }
-    requires made { Pens C.Clock.meaning berths.now }
-    ensures { result ≡ answered (C.Clock.meaning.unite_due (pen_at C.Clock.meaning berths.now a) (pen_at C.Clock.meaning berths.now b)) (C.Clock.meaning.united (pen_at C.Clock.meaning berths.now a) (pen_at C.Clock.meaning berths.now b)) }
+    requires made { Pens C.meaning berths.now }
+    ensures { result ≡ answered
+        (C.meaning.unite_due (pen_at C.meaning berths.now a) (pen_at C.meaning berths.now b))
+        (C.meaning.united (pen_at C.meaning berths.now a) (pen_at C.meaning berths.now b)) }
 {
     C::unite(&berths[a].pen, &berths[b].pen)
 }
@@ -85,7 +65,7 @@ fn united_pen<C: Clock>(berths: &[Berth<C::Pen>], a: usize, b: usize) -> Result<
 // Berth b works with the pen, and berth a becomes empty.
 fn hand_over<C: Clock>(berths: &mut [Berth<C::Pen>], a: usize, b: usize, pen: C::Pen)
     requires { (a < length berths.old) × (b < length berths.old) }
-    ensures { berths.new ≡ set (set berths.old b (working_berth pen)) a (empty_berth C.Clock.meaning) }
+    ensures { berths.new ≡ set (set berths.old b (working_berth pen)) a (empty_berth C.meaning) }
 {
     berths[b] = Berth::working(pen);
     berths[a] = blank_berth::<C>();
@@ -99,8 +79,9 @@ fn retire_berth<C: Clock, P: Copy>(
     a: usize,
     b: usize,
 ) -> Result<(), Fault>
-    requires made { Made C.Clock.meaning berths.old copies.old }
-    ensures { left result berths.new copies.new [] ≡ retire_result C.Clock.meaning sizes berths.old copies.old a b }
+    requires made { Made C.meaning berths.old copies.old }
+    ensures { left result berths.new copies.new []
+        ≡ retire_result C.meaning sizes berths.old copies.old a b }
 {
     check_retire(sizes, berths, copies, a, b)?;
     let pen = united_pen::<C>(berths, a, b).at_berth(b)?;
@@ -120,10 +101,12 @@ pub fn retire<C: Clock, P: Copy>(
     a: usize,
     b: usize,
 ) -> Result<(), Fault>
-    requires made { Made C.Clock.meaning berths.old copies.old }
-    ensures result { left result berths.new copies.new [] ≡ retire_result C.Clock.meaning card.now berths.old copies.old a b }
-    ensures made { Made C.Clock.meaning berths.new copies.new }
-    ensures history { LawfulAt C.Clock.meaning (retire_call card.now a b) berths.old copies.old (left result berths.new copies.new []) }
+    requires made { Made C.meaning berths.old copies.old }
+    ensures result { left result berths.new copies.new []
+        ≡ retire_result C.meaning card.now berths.old copies.old a b }
+    ensures made { Made C.meaning berths.new copies.new }
+    ensures history { LawfulAt C.meaning (retire_call card.now a b) berths.old copies.old
+        (left result berths.new copies.new []) }
 {
     retire_berth(card.sizes(), berths, copies, a, b)
 }

@@ -3,7 +3,7 @@ use history::Sizes;
 use std::marker::Model;
 
 /// The right to read a sealed yard, with its sizes. Only `seal` makes one.
-// Two plain types of cards and not one with a parameter: a rule of the project, since a reader is to see the two.
+// Two types of cards and not one with a parameter: a reader is to see the two.
 #[derive(Drop)]
 pub struct SealedCard {
     pub(crate) sizes: Sizes,

@@ -3,8 +3,7 @@ ghost use Rattle.clock.specs.Answers.{due};
 ghost use Rattle.clock.specs.declared.causes.Cause.TheVariants.{NoConflict};
 ghost use Rattle.history.specs.Tables.{is_conflict, Made};
 ghost use Rattle.history.specs.Checks.{fault, left};
-ghost use Rattle.history.specs.Settle.{settle_plain, settle_result};
-ghost use Rattle.history.specs.Settle.{settle_call};
+ghost use Rattle.history.specs.Settle.{settle_plain, settle_result, settle_call};
 ghost use Rattle.history.specs.Law.{LawfulAt};
 ghost use Rattle.yard.specs.Passing.{passing, all_pass};
 
@@ -16,9 +15,6 @@ use crate::open_card::OpenCard;
 use crate::places::Place;
 use clock::{Cause, Clock, Fault, Verdict};
 use history::{Berth, Record, Sizes};
-
-// The pens and clocks of the tables are plain data with no invariant in their types, a rule of the project: so `made`,
-// and what it says of one table, stands on each contract. Two berths, or a berth and a file, are no one thing.
 
 fn check_settle<Q, C, P>(
     sizes: Sizes,
@@ -41,7 +37,8 @@ fn check_settle<Q, C, P>(
 
 // 7: the copies are in conflict.
 fn check_conflict(verdict: Verdict, b: usize, f: usize) -> Result<(), Fault>
-    ensures { result ≡ passing (due (not (is_conflict verdict)) (fault NoConflict (Some b) (Some f))) }
+    ensures { result
+        ≡ passing (due (not (is_conflict verdict)) (fault NoConflict (Some b) (Some f))) }
 {
     let fault = Fault::from(Cause::NoConflict).at_berth(b).at_file(f);
     refuse_if(verdict != Verdict::Conflict, fault)
@@ -59,10 +56,12 @@ pub fn settle<C: Clock, P: Copy>(
     f: usize,
     payload: P,
 ) -> Result<(), Fault>
-    requires made { Made C.Clock.meaning berths.now copies.old }
-    ensures result { left result berths.now copies.new [] ≡ settle_result C.Clock.meaning card.now berths.now copies.old a b f payload }
-    ensures made { Made C.Clock.meaning berths.now copies.new }
-    ensures history { LawfulAt C.Clock.meaning (settle_call card.now a b f payload) berths.now copies.old (left result berths.now copies.new []) }
+    requires made { Made C.meaning berths.now copies.old }
+    ensures result { left result berths.now copies.new []
+        ≡ settle_result C.meaning card.now berths.now copies.old a b f payload }
+    ensures made { Made C.meaning berths.now copies.new }
+    ensures history { LawfulAt C.meaning (settle_call card.now a b f payload) berths.now copies.old
+        (left result berths.now copies.new []) }
 {
     let sizes = card.sizes();
     check_settle(sizes, berths, copies, a, b, f)?;

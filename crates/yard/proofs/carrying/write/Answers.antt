@@ -1,16 +1,21 @@
-use Rattle.std.proofs.Common.{sym, subst}
 use Rattle.history.specs.declared.calls.Call.TheVariants.{Writes}
-use Rattle.history.specs.Tables.{Made}
+use Rattle.history.specs.Checks.{left}
 use Rattle.history.specs.Page.{asked}
-use Rattle.history.proofs.Law.{leaves_made, lawful_call}
+use Rattle.history.proofs.Law.{lawful_call}
+use Rattle.yard.proofs.Clauses.{made_said}
 use Rattle.yard.proofs.carrying.write.Goals as goal
 
 pub returns : goal.returns
 returns g c =
     let m = g.C.Clock.meaning in
+    let same = g.P.Payload.same in
+    let bs = c.args.berths.now in
+    let cs = c.args.copies.now in
     let q = asked c.args.card.now (Writes c.args.call) c.args.bytes.now in
-    let e = c.write_call.ensures in record {
+    let e = c.write_call.ensures in
+    let l = left c.write_call.result c.write_call.new.berths c.write_call.new.copies c.write_call.new.bytes in
+    record {
       result = e;
-      made = subst (λ l. Made m l.berths l.copies) (sym e) (leaves_made m g.met.C.Clock.sound g.P.Payload.same q c.args.berths.now c.args.copies.now c.requires.made);
-      history = lawful_call m g.met.C.Clock.sound g.P.Payload.same q c.args.berths.now c.args.copies.now;
+      made = made_said m g.met.C.Clock.sound same q bs cs l e c.requires.made;
+      history = lawful_call m g.met.C.Clock.sound same q bs cs;
     }

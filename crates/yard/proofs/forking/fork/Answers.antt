@@ -1,15 +1,14 @@
-use Rattle.std.proofs.Common.{◌∙◌}
-use Rattle.history.specs.Fork.{fork_result}
-use Rattle.history.specs.Fork.{fork_call}
-use Rattle.yard.proofs.Clauses.{made_from, lawful_from, any}
+use Rattle.std.proofs.Common.{[], refl}
+use Rattle.history.specs.Checks.{left}
+use Rattle.history.specs.Fork.{fork_result, fork_call}
+use Rattle.yard.proofs.Clauses.{clauses}
 use Rattle.yard.proofs.forking.fork.Goals as goal
 
 pub returns : goal.returns
 returns g c =
-    let call = fork_call c.args.card.now c.args.a c.args.b in
-    let e = c.fork_berth.ensures ∙ (λ k. fork_result g.C.Clock.meaning (c.sizes.ensures k) c.args.berths.now c.args.copies.now c.args.a c.args.b) in
-    record {
-      result = e;
-      made = made_from g.C.Clock.meaning g.met.C.Clock.sound any call c.args.berths.now c.args.copies.now _ e c.requires.made;
-      history = λ alike. lawful_from g.C.Clock.meaning g.met.C.Clock.sound alike call c.args.berths.now c.args.copies.now _ e;
-    }
+    let m = g.C.Clock.meaning in
+    let bs = c.args.berths.now in
+    let cs = c.args.copies.now in
+    let k = clauses m g.met.C.Clock.sound (fork_call c.args.card.now c.args.a c.args.b) bs cs (λ s. fork_result m s bs cs c.args.a c.args.b)
+    (left c.fork_berth.result c.fork_berth.new.berths c.fork_berth.new.copies []) c.sizes.result c.args.card.now c.sizes.ensures c.fork_berth.ensures (λ alike. refl) in
+    record { result = k.result; made = k.made c.requires.made; history = k.history }

@@ -1,11 +1,9 @@
-use Rattle.std.proofs.Common.{◌≡◌, ◌<◌, ◌≤◌, List, sym, refl, ap, ◌∙◌, subst, ⊎_elim, arith, rules, length-set}
+use Rattle.std.proofs.Common.{◌≡◌, ◌*◌, ◌≤◌, sym, refl, ap, ◌∙◌, ⊎_elim, arith, rules}
 use Rattle.clock.specs.declared.verdicts.Verdict.TheVariants.{Stale, Conflict}
-use Rattle.history.specs.declared.tables.Record.{Record}
 use Rattle.history.specs.Tables.{judged, reported, is_stale, is_conflict}
 use Rattle.history.proofs.Lookups.{place_within}
-use Rattle.yard.specs.Entries.{Clocks}
-use Rattle.yard.proofs.Verdicts.{told_more, reported-none, counts_told, told_stale, told_conflict}
-use Rattle.yard.proofs.Taken.{taking, taking-none, taking_all, taking_more, taking_verdict, took_clocks}
+use Rattle.yard.proofs.Verdicts.{told_more, told_length, told_all, reported-none, counts_told, told_stale, told_conflict}
+use Rattle.yard.proofs.Taken.{taking, turn, taking-none, taking_all, taking_more, taking_verdict, taken_clocks}
 use Rattle.yard.proofs.pulling.pull_files.Goals as goal
 
 pub loop-f-init : goal.loop-f-init
@@ -40,24 +38,24 @@ loop-f-preserved g c =
     let s = c.in-Some.ensures.steps in
     let k = c.loop-f.invariant in
     let go = c.in-Some.ensures.goes.on k.1 in
-    let lt : n < F = omega (arith, s.0.0.1.0, k.2, k.3) in
+    let ours = turn F (c.args.b * F) n k.2 k.3 s.0.0 in
+    let theirs = turn F (c.args.a * F) n k.4 k.5 s.0.1 in
+    let lt = ours.below in
     let la = place_within c.args.sizes.berths F c.args.a n (omega arith) lt in
     let lb = place_within c.args.sizes.berths F c.args.b n (omega arith) lt in
-    let i = s.0.0.1.1 ∙ k.2 in
-    let j = s.0.1.1.1 ∙ k.4 in
-    let ev = taking_verdict m F c.args.a c.args.b cs c.requires.ready.0.some_files n c.in-Some.i c.in-Some.j c.loop-f.copies c.take_newer.result c.requires.ready.1.0 lt (omega arith) (omega arith) k.7 i j c.take_newer.ensures.verdict in (
+    let ev = taking_verdict m F c.args.a c.args.b cs c.requires.ready.0.some_files n c.in-Some.i c.in-Some.j c.loop-f.copies c.take_newer.result c.requires.ready.1.0 lt (omega arith) (omega arith) k.7 ours.is theirs.is c.take_newer.ensures.verdict in (
       go.0,
       go.1,
-      omega (arith, s.2, s.0.0.1.2, k.2),
-      omega (arith, s.0.0.0, k.3),
-      omega (arith, s.2, s.0.1.1.2, k.4),
-      omega (arith, s.0.1.0, k.5),
+      omega (arith, s.2, ours.next),
+      ours.ends,
+      omega (arith, s.2, theirs.next),
+      theirs.ends,
       omega (arith, s.2, lt),
-      taking_more m F c.args.a c.args.b cs c.requires.ready.0.some_files n c.in-Some.i c.in-Some.j c.loop-f.copies c.take_newer.new.copies c.requires.ready.1.0 lt (omega arith) (omega arith) k.7 i j c.take_newer.ensures.copies ∙ ap (λ x. taking m F c.args.a c.args.b cs x) (sym s.2),
-      subst (λ (l : List (Record g.row.C.Denot g.row.P.Denot)). Clocks m l) (sym c.take_newer.ensures.copies) (took_clocks m c.loop-f.copies c.in-Some.i c.in-Some.j k.8),
+      taking_more m F c.args.a c.args.b cs c.requires.ready.0.some_files n c.in-Some.i c.in-Some.j c.loop-f.copies c.take_newer.new.copies c.requires.ready.1.0 lt (omega arith) (omega arith) k.7 ours.is theirs.is c.take_newer.ensures.copies ∙ ap (λ x. taking m F c.args.a c.args.b cs x) (sym s.2),
+      taken_clocks m c.loop-f.copies c.take_newer.new.copies c.in-Some.i c.in-Some.j c.take_newer.ensures.copies k.8,
       omega arith,
-      told_more n _ c.in-Some.f v c.args.bytes.now c.loop-f.bytes c.into.result c.take_newer.result s.1 s.2 (omega arith) k.10 c.into.ensures ev,
-      length-set c.loop-f.bytes c.in-Some.f c.into.result ∙ k.11,
+      told_more n c.next.new.self.count c.in-Some.f v c.args.bytes.now c.loop-f.bytes c.into.result c.take_newer.result s.1 s.2 (omega arith) k.10 c.into.ensures ev,
+      told_length c.args.bytes.now c.loop-f.bytes c.in-Some.f c.into.result k.11,
     )
 
 pub returns : goal.returns
@@ -70,7 +68,7 @@ returns g c =
     let k = c.loop-f.invariant in
     let over : F ≤ n = ⊎_elim (λ z. omega (arith, z.1.0, k.2, k.3)) (λ z. omega (arith, z.1.0, k.4, k.5)) c.in-None.ensures.steps.0 in
     let e : n ≡ F = omega (arith, over, k.6) in
-    let told = k.10 ∙ ap (λ j. reported j v c.args.bytes.now) e in
+    let told = told_all F n v c.args.bytes.now c.loop-f.bytes e k.10 in
     record {
       copies = k.7 ∙ taking_all m F c.args.a c.args.b cs c.requires.ready.0.some_files n e;
       bytes = told;

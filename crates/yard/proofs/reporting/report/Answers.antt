@@ -1,13 +1,15 @@
-use Rattle.std.proofs.Common.{◌∙◌}
-use Rattle.history.specs.Report.{report_result}
-use Rattle.history.specs.Report.{report_call}
-use Rattle.yard.proofs.Clauses.{lawful_from}
+use Rattle.history.specs.Checks.{left}
+use Rattle.history.specs.Report.{report_result, report_call}
+use Rattle.yard.proofs.Clauses.{under_card, lawful_from}
 use Rattle.yard.proofs.reporting.report.Goals as goal
 
 pub returns : goal.returns
 returns g c =
-    let e = c.report_copies.ensures ∙ (λ k. report_result g.C.Clock.meaning (c.sizes.ensures k) c.args.berths.now c.args.copies.now g.P.Payload.same c.args.a c.args.b c.args.bytes.now) in
-    record {
-      result = e;
-      history = lawful_from g.C.Clock.meaning g.met.C.Clock.sound g.P.Payload.same (report_call (g.K.Card.sizes c.args.card.now) c.args.a c.args.b c.args.bytes.now) c.args.berths.now c.args.copies.now _ e;
-    }
+    let m = g.C.Clock.meaning in
+    let same = g.P.Payload.same in
+    let bs = c.args.berths.now in
+    let cs = c.args.copies.now in
+    let card = g.K.Card.sizes c.args.card.now in
+    let l = left c.report_copies.result bs cs c.report_copies.new.bytes in
+    let e = under_card (λ s. report_result m s bs cs same c.args.a c.args.b c.args.bytes.now) l c.sizes.result card c.sizes.ensures c.report_copies.ensures in
+    record { result = e; history = lawful_from m g.met.C.Clock.sound same (report_call card c.args.a c.args.b c.args.bytes.now) bs cs l e }

@@ -1,8 +1,6 @@
-use Rattle.std.proofs.Common.{◌≡◌, ◌+◌, ◌++◌, ◌∷◌, [], List, length, sym, refl, ap, ◌∙◌, subst, arith, length-append}
-use Rattle.history.specs.declared.tables.Record.{Record}
+use Rattle.std.proofs.Common.{◌≡◌, ◌+◌, ◌*◌, ◌++◌, ◌∷◌, [], length, sym, refl, ap, ◌∙◌, arith, length-append}
 use Rattle.history.proofs.Lookups.{place_within}
-use Rattle.yard.specs.Entries.{Clocks}
-use Rattle.yard.proofs.Taken.{taking, taking-none, taking_more, took_clocks}
+use Rattle.yard.proofs.Taken.{taking, turn, taking-none, taking_more, taken_clocks}
 use Rattle.yard.proofs.taking.take_files.Goals as goal
 
 pub loop-i-init : goal.loop-i-init
@@ -29,17 +27,19 @@ loop-i-preserved g c =
     let n = length c.loop-i.yielded in
     let s = c.in-Some.ensures.steps in
     let v = c.loop-i.invariant in
+    let ours = turn F (c.args.b * F) n v.2 v.3 s.0 in
+    let theirs = turn F (c.args.a * F) n v.4 v.5 s.1 in
     let one : length (c.loop-i.yielded ++ ((c.in-Some.i, c.in-Some.j) ∷ [])) ≡ n + 1 = length-append c.loop-i.yielded _ in
-    let la = place_within c.args.sizes.berths F c.args.a n (omega arith) (omega (arith, s.0.1.0, v.2, v.3)) in
-    let lb = place_within c.args.sizes.berths F c.args.b n (omega arith) (omega (arith, s.0.1.0, v.2, v.3)) in (
+    let la = place_within c.args.sizes.berths F c.args.a n (omega arith) ours.below in
+    let lb = place_within c.args.sizes.berths F c.args.b n (omega arith) ours.below in (
       (tt, tt),
       tt,
-      omega (arith, one, s.0.1.2, v.2),
-      omega (arith, s.0.0, v.3),
-      omega (arith, one, s.1.1.2, v.4),
-      omega (arith, s.1.0, v.5),
-      omega (arith, one, s.0.1.0, v.2, v.3),
-      taking_more g.C.Clock.meaning F c.args.a c.args.b c.args.copies.now c.requires.ready.0.some_files n c.in-Some.i c.in-Some.j c.loop-i.copies c.take_newer.new.copies c.requires.ready.1 (omega (arith, s.0.1.0, v.2, v.3)) (omega arith) (omega arith) v.7 (s.0.1.1 ∙ v.2) (s.1.1.1 ∙ v.4) c.take_newer.ensures.copies ∙ ap (λ k. taking g.C.Clock.meaning F c.args.a c.args.b c.args.copies.now k) (sym one),
-      subst (λ (l : List (Record g.row.C.Denot g.row.P.Denot)). Clocks g.C.Clock.meaning l) (sym c.take_newer.ensures.copies) (took_clocks g.C.Clock.meaning c.loop-i.copies c.in-Some.i c.in-Some.j v.8),
+      omega (arith, one, ours.next),
+      ours.ends,
+      omega (arith, one, theirs.next),
+      theirs.ends,
+      omega (arith, one, ours.below),
+      taking_more g.C.Clock.meaning F c.args.a c.args.b c.args.copies.now c.requires.ready.0.some_files n c.in-Some.i c.in-Some.j c.loop-i.copies c.take_newer.new.copies c.requires.ready.1 ours.below (omega arith) (omega arith) v.7 ours.is theirs.is c.take_newer.ensures.copies ∙ ap (λ k. taking g.C.Clock.meaning F c.args.a c.args.b c.args.copies.now k) (sym one),
+      taken_clocks g.C.Clock.meaning c.loop-i.copies c.take_newer.new.copies c.in-Some.i c.in-Some.j c.take_newer.ensures.copies v.8,
       omega arith,
     )
