@@ -1,8 +1,10 @@
-use crate::calls::{Answer, Call};
+use crate::answers::Answer;
 use crate::edit_sets::EditSet;
 use crate::kinds::Kind;
 use crate::model::{Kept, Model};
+use crate::numbering::Numbering;
 use anyhow::{Context, Result};
+use history::{Call, Reading, Writing};
 
 // The numbers of the verdicts that a rule names.
 const STALE: u8 = 1;
@@ -12,20 +14,50 @@ const CONFLICT: u8 = 3;
 impl<M: Kind> Model<M> {
     /// What a call is to answer, and to leave in the model and in the buffer.
     /// `other` says that the card has other sizes than the tables.
-    pub fn answer(&mut self, call: Call, other: bool, bytes: &mut [u8]) -> Result<Answer> {
+    pub fn answer<N: Numbering<P>, P: Copy>(
+        &mut self,
+        call: &Call<P>,
+        other: bool,
+        bytes: &mut [u8],
+    ) -> Result<Answer> {
         if let Some(refusal) = self.refusal(call, other, bytes.len()) {
             return Ok(Answer::Refused(refusal));
         }
-        match call {
-            Call::Fork { a, b } => self.fork(a, b),
-            Call::Edit { a, f, payload } => self.edit(a, f, payload),
-            Call::Judge { a, b, f } => Ok(Answer::Verdict(self.verdict(a, b, f)?)),
-            Call::Report { a, b } => self.report(a, b, bytes),
-            Call::Pull { a, b } => self.pull(a, b, bytes),
-            Call::Settle { a, b, f, payload } => self.settle(a, b, f, payload),
-            Call::Retire { a, b } => self.retire(a, b),
-            Call::Vacate { a } => self.vacate(a),
+        match *call {
+            Call::Reads(reading) => self.read(reading, bytes),
+            Call::Writes(writing) => self.write::<N, P>(writing, bytes),
+            Call::Seal => Ok(Answer::Done),
         }
+    }
+
+    fn read(&self, call: Reading, bytes: &mut [u8]) -> Result<Answer> {
+        match call {
+            Reading::Judge { a, b, f } => Ok(Answer::Verdict(self.verdict(a, b, f)?)),
+            Reading::Report { a, b } => self.report(a, b, bytes),
+            Reading::Show { a, f } => self.show(a, f),
+        }
+    }
+
+    fn write<N: Numbering<P>, P: Copy>(
+        &mut self,
+        call: Writing<P>,
+        bytes: &mut [u8],
+    ) -> Result<Answer> {
+        match call {
+            Writing::Fork { a, b } => self.fork(a, b),
+            Writing::Edit { a, f, payload } => self.edit(a, f, N::number(&payload)),
+            Writing::Pull { a, b } => self.pull(a, b, bytes),
+            Writing::Settle { a, b, f, payload } => self.settle(a, b, f, N::number(&payload)),
+            Writing::Retire { a, b } => self.retire(a, b),
+            Writing::Drop { a } => self.vacate(a),
+        }
+    }
+
+    // The pen and the copy's clock, as the kind writes them.
+    fn show(&self, a: usize, f: usize) -> Result<Answer> {
+        let pen = M::pen_word(self.heap, &self.row(a)?.pen)?;
+        let clock = M::clock_word(self.heap, &self.kept(a, f)?.clock)?;
+        Ok(Answer::Shown(pen, clock))
     }
 
     // b gets the second half of the pen and the copies of a.
@@ -55,7 +87,7 @@ impl<M: Kind> Model<M> {
             Err(cause) => return Ok(Answer::refused(cause, Some(a), Some(f))),
         };
         let edits = kept.edits.copied()?;
-        self.write(
+        self.put(
             a,
             f,
             Kept {
@@ -67,7 +99,7 @@ impl<M: Kind> Model<M> {
     }
 
     // Writes a copy that has the next edit behind it too.
-    fn write(&mut self, b: usize, f: usize, kept: Kept<M>) -> Result<Answer> {
+    fn put(&mut self, b: usize, f: usize, kept: Kept<M>) -> Result<Answer> {
         let mut kept = kept;
         kept.edits
             .add(self.edits)
@@ -135,7 +167,7 @@ impl<M: Kind> Model<M> {
         };
         let mut edits: EditSet = ours.edits.copied()?;
         edits.unite(&theirs.edits);
-        self.write(
+        self.put(
             b,
             f,
             Kept {

@@ -1,7 +1,9 @@
-use crate::calls::{Call, Refusal};
+use crate::answers::Refusal;
 use crate::edit_sets::EditSet;
 use crate::kinds::Kind;
+use crate::needs::Needs;
 use anyhow::{Context, Result};
+use history::Call;
 use std::alloc::{AllocError, Global};
 
 /// What the model keeps of a copy: the edits behind it, the number of its
@@ -136,8 +138,8 @@ impl<M: Kind> Model<M> {
 
     /// The refusal 1 to 6 that is due, the lowest number first. `other` says that
     /// the card has other sizes than the tables, `room` is the buffer's length.
-    pub fn refusal(&self, call: Call, other: bool, room: usize) -> Option<Refusal> {
-        let needs = call.needs();
+    pub fn refusal<P: Copy>(&self, call: &Call<P>, other: bool, room: usize) -> Option<Refusal> {
+        let needs = Needs::of(call)?;
         let berths = [Some(needs.a), needs.b];
         if other {
             return refused(1, None, None);

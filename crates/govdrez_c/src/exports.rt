@@ -1,7 +1,8 @@
 ghost use Rattle.std.specs.Prelude.{◌≤◌, length};
 
+use crate::calls::{YardCall, ticket};
 use crate::rounds::rounds;
-use crate::seasons::{BERTHS, FILES, YardCall, seasons, tell_season, ticket};
+use crate::seasons::{BERTHS, FILES, seasons, tell_season};
 use crate::steps::{SLOTS, Step, slot};
 use crate::telling::tell_steps;
 use payload::Ticket;

@@ -14,6 +14,7 @@
 #![tactic(auto)]
 
 mod answers;
+mod calls;
 mod exports;
 mod outcomes;
 mod rounds;
@@ -21,10 +22,10 @@ mod seasons;
 mod steps;
 mod telling;
 
+pub use calls::YardCall;
 pub use exports::{
     govdrez_record_copies, govdrez_tree_rounds, govdrez_tree_season, govdrez_tree_seasons,
     govdrez_tree_steps, govdrez_vector_rounds, govdrez_vector_season, govdrez_vector_seasons,
     govdrez_vector_steps,
 };
-pub use seasons::YardCall;
 pub use steps::Step;

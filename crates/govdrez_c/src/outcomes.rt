@@ -1,38 +1,31 @@
-use clock::{Fault, Verdict};
+use clock::Fault;
+use history::Answer;
 use std::fmt;
 
-/// What a call of a yard answers.
+/// What a call of a yard answers, or its refusal.
 #[derive(Clone, Copy)]
-pub(crate) enum Outcome {
-    /// It is done, and what it made stands in the tables.
-    Done,
-    Judged(Verdict),
-    /// How many files a pull took, and how many are in conflict.
-    Pulled(usize, usize),
-    /// How many files are equal, stale, ahead, in conflict, and twins.
-    Reported(usize, usize, usize, usize, usize),
-    Refused(Fault),
+pub(crate) struct Outcome<Q, C> {
+    pub answer: Result<Answer<Q, C>, Fault>,
 }
 
-impl Outcome {
-    /// Done, or the refusal.
-    pub(crate) fn of(answer: Result<(), Fault>) -> Outcome {
-        match answer {
-            Ok(()) => Outcome::Done,
-            Err(fault) => Outcome::Refused(fault),
-        }
-    }
-
-    /// A number that depends on the whole answer, for the sum over a run.
+impl<Q, C> Outcome<Q, C> {
+    /// A number that depends on the whole answer, for the sum over a run; of pens
+    /// and clocks, which the library's calls never show, it takes nothing.
     pub(crate) fn number(&self) -> u64 {
-        match *self {
-            Outcome::Done => 1,
-            Outcome::Judged(verdict) => 10 + u8::from(verdict) as u64,
-            Outcome::Pulled(taken, conflicts) => sum([taken, conflicts, 0, 0, 0]),
-            Outcome::Reported(equal, stale, ahead, conflicts, twins) => {
-                sum([equal, stale, ahead, conflicts, twins])
-            }
-            Outcome::Refused(fault) => 100 + u8::from(fault.cause) as u64,
+        match &self.answer {
+            Ok(Answer::Done | Answer::Shown { .. }) => 1,
+            Ok(Answer::Judged(verdict)) => 10 + u8::from(*verdict) as u64,
+            Ok(Answer::Pulled { taken, conflicts }) => sum([*taken, *conflicts, 0, 0, 0]),
+            Ok(
+                Answer::Reported {
+                    equal,
+                    stale,
+                    ahead,
+                    conflicts,
+                    twins,
+                },
+            ) => sum([*equal, *stale, *ahead, *conflicts, *twins]),
+            Err(fault) => 100 + u8::from(fault.cause) as u64,
         }
     }
 }
@@ -47,16 +40,25 @@ fn sum(counts: [usize; 5]) -> u64 {
 }
 
 /// As a log prints it: `done`, `conflict`, `refused 7 berth 1 file 0`.
-impl fmt::Display for Outcome {
+impl<Q: fmt::Display, C: fmt::Display> fmt::Display for Outcome<Q, C> {
     fn fmt<W: fmt::Write>(&self, f: &mut fmt::Formatter<W>) -> fmt::Result {
-        match self {
-            Outcome::Done => f.write_str("done"),
-            Outcome::Judged(verdict) => write!(f, "{verdict}"),
-            Outcome::Pulled(taken, conflicts) => write!(f, "taken {taken} conflicts {conflicts}"),
-            Outcome::Reported(equal, stale, ahead, conflicts, twins) => {
-                write!(f, "report {equal} {stale} {ahead} {conflicts} {twins}")
+        match &self.answer {
+            Ok(Answer::Done) => f.write_str("done"),
+            Ok(Answer::Judged(verdict)) => write!(f, "{verdict}"),
+            Ok(Answer::Pulled { taken, conflicts }) => {
+                write!(f, "taken {taken} conflicts {conflicts}")
             }
-            Outcome::Refused(fault) => write!(f, "{fault}"),
+            Ok(
+                Answer::Reported {
+                    equal,
+                    stale,
+                    ahead,
+                    conflicts,
+                    twins,
+                },
+            ) => write!(f, "report {equal} {stale} {ahead} {conflicts} {twins}"),
+            Ok(Answer::Shown { pen, clock }) => write!(f, "{pen} {clock}"),
+            Err(fault) => write!(f, "{fault}"),
         }
     }
 }

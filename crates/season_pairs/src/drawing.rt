@@ -1,6 +1,8 @@
 use crate::generator::Generator;
-use crate::plans::{Plan, Weights};
-use edit_model::{Call, Kind, Model};
+use crate::plans::{EVENLY, Plan, Weights};
+use crate::samples::Sample;
+use edit_model::{Kind, Model, Needs};
+use history::{Call, Reading, Writing};
 
 /// The card that a call is given: the yard's, or one of other sizes.
 #[derive(Clone, Copy)]
@@ -12,8 +14,8 @@ pub enum Given {
 
 /// A call, and what it is given beside its arguments.
 #[derive(Clone, Copy)]
-pub struct Order {
-    pub call: Call,
+pub struct Order<T> {
+    pub call: T,
     /// The card that it is made under.
     pub given: Given,
     /// The length of the buffer.
@@ -22,9 +24,9 @@ pub struct Order {
     pub byte: u8,
 }
 
-impl Order {
+impl<T> Order<T> {
     /// A call under the yard's card, with a buffer that is just long enough.
-    pub fn plain(call: Call, files: usize) -> Order {
+    pub fn plain(call: T, files: usize) -> Order<T> {
         Order {
             call,
             given: Given::Own,
@@ -40,9 +42,18 @@ impl Order {
 }
 
 /// Draws a call, and what it is given.
-pub fn draw_order<M: Kind>(from: &mut Generator, plan: &Plan, model: &Model<M>) -> Order {
+pub fn draw_order<M: Kind, P: Sample>(
+    from: &mut Generator,
+    plan: &Plan,
+    model: &Model<M>,
+) -> Order<Call<P>> {
     let wrong = from.chance(plan.wrong);
     let call = draw_call(from, plan, model, wrong);
+    give(from, plan, call, wrong)
+}
+
+// What a call is given; where it is to be wrong, at times something else.
+fn give<T>(from: &mut Generator, plan: &Plan, call: T, wrong: bool) -> Order<T> {
     Order {
         call,
         given: draw_card(from, wrong),
@@ -52,23 +63,14 @@ pub fn draw_order<M: Kind>(from: &mut Generator, plan: &Plan, model: &Model<M>) 
 }
 
 /// Draws a call each argument of which may be wrong.
-pub fn draw_rough(from: &mut Generator, plan: &Plan) -> Order {
+pub fn draw_rough<P: Sample>(from: &mut Generator, plan: &Plan) -> Order<Call<P>> {
     let a = from.below(plan.berths.saturating_add(2));
     let b = from.below(plan.berths.saturating_add(2));
     let f = from.below(plan.files.saturating_add(2));
     let payload = draw_payload(from);
-    let call = match from.below(8) {
-        0 => Call::Fork { a, b },
-        1 => Call::Edit { a, f, payload },
-        2 => Call::Judge { a, b, f },
-        3 => Call::Report { a, b },
-        4 => Call::Pull { a, b },
-        5 => Call::Settle { a, b, f, payload },
-        6 => Call::Retire { a, b },
-        _ => Call::Vacate { a },
-    };
+    let draw = from.below(8);
     Order {
-        call,
+        call: EVENLY.call(draw, a, b, f, payload),
         given: draw_card(from, true),
         room: from.below(plan.files.saturating_add(2)),
         byte: 4 + from.below(250) as u8,
@@ -76,25 +78,21 @@ pub fn draw_rough(from: &mut Generator, plan: &Plan) -> Order {
 }
 
 /// Draws a call of judge or report.
-pub fn draw_reading<M: Kind>(from: &mut Generator, plan: &Plan, model: &Model<M>) -> Order {
+pub fn draw_reading<M: Kind>(
+    from: &mut Generator,
+    plan: &Plan,
+    model: &Model<M>,
+) -> Order<Reading> {
     let wrong = from.chance(plan.wrong);
     let a = draw_berth(from, model, true, wrong);
     let b = draw_berth(from, model, true, wrong);
     let call = if from.chance(50) {
-        Call::Report { a, b }
+        Reading::Report { a, b }
     } else {
-        Call::Judge {
-            a,
-            b,
-            f: draw_file(from, plan.files, wrong),
-        }
+        let f = draw_file(from, plan.files, wrong);
+        Reading::Judge { a, b, f }
     };
-    Order {
-        call,
-        given: draw_card(from, wrong),
-        room: draw_room(from, plan.files, wrong),
-        byte: 4 + from.below(250) as u8,
-    }
+    give(from, plan, call, wrong)
 }
 
 // The yard's card; where the call is to be wrong, at times one of other sizes.
@@ -106,62 +104,65 @@ fn draw_card(from: &mut Generator, wrong: bool) -> Given {
     }
 }
 
-// The calls, in the order of their weights.
-#[derive(Clone, Copy)]
-enum Name {
-    Fork,
-    Edit,
-    Judge,
-    Report,
-    Pull,
-    Settle,
-    Retire,
-    Vacate,
-}
-
-fn draw_name(from: &mut Generator, weights: &Weights) -> Name {
-    let names = [
-        (Name::Fork, weights.fork),
-        (Name::Edit, weights.edit),
-        (Name::Judge, weights.judge),
-        (Name::Report, weights.report),
-        (Name::Pull, weights.pull),
-        (Name::Settle, weights.settle),
-        (Name::Retire, weights.retire),
-        (Name::Vacate, weights.vacate),
-    ];
-    let mut left = from.below(100);
-    for (name, weight) in names {
-        if left < weight {
-            return name;
+impl Weights {
+    // The call that a draw of this number gives, with these arguments.
+    fn call<P: Copy>(&self, draw: usize, a: usize, b: usize, f: usize, payload: P) -> Call<P> {
+        let mut left = draw;
+        if comes(&mut left, self.fork) {
+            Call::Writes(Writing::Fork { a, b })
+        } else if comes(&mut left, self.edit) {
+            Call::Writes(Writing::Edit { a, f, payload })
+        } else if comes(&mut left, self.judge) {
+            Call::Reads(Reading::Judge { a, b, f })
+        } else if comes(&mut left, self.report) {
+            Call::Reads(Reading::Report { a, b })
+        } else if comes(&mut left, self.pull) {
+            Call::Writes(Writing::Pull { a, b })
+        } else if comes(&mut left, self.settle) {
+            Call::Writes(Writing::Settle { a, b, f, payload })
+        } else if comes(&mut left, self.retire) {
+            Call::Writes(Writing::Retire { a, b })
+        } else {
+            Call::Writes(Writing::Drop { a })
         }
-        left -= weight;
     }
-    Name::Judge
 }
 
-fn draw_call<M: Kind>(from: &mut Generator, plan: &Plan, model: &Model<M>, wrong: bool) -> Call {
-    let name = draw_name(from, &plan.weights);
+// Whether a draw falls into this weight; where not, the weight is taken off.
+fn comes(left: &mut usize, weight: usize) -> bool {
+    if *left < weight {
+        return true;
+    }
+    *left -= weight;
+    false
+}
+
+fn draw_call<M: Kind, P: Sample>(
+    from: &mut Generator,
+    plan: &Plan,
+    model: &Model<M>,
+    wrong: bool,
+) -> Call<P> {
+    let weights = plan.weights;
+    let draw = from.below(100);
     let a = draw_berth(from, model, true, wrong);
-    let empty = matches!(name, Name::Fork);
+    let empty = Needs::of(&weights.call(draw, a, a, 0, ())).is_some_and(|needs| needs.b_empty);
     let b = draw_second(from, model, a, empty, wrong);
     let f = draw_file(from, plan.files, wrong);
-    let payload = draw_payload(from);
-    // where there is no second replica, an edit
-    if a == b && !wrong && !matches!(name, Name::Judge | Name::Report) {
-        return Call::Edit { a, f, payload };
+    let payload = draw_payload::<P>(from);
+    match weights.call(draw, a, b, f, payload) {
+        // where there is no second replica, an edit; and the last replica stays, so
+        // that there is something to call
+        Call::Writes(writing) if (a == b && !wrong) || ends(&writing, model) => {
+            Call::Writes(Writing::Edit { a, f, payload })
+        }
+        call => call,
     }
-    match name {
-        Name::Fork => Call::Fork { a, b },
-        Name::Judge => Call::Judge { a, b, f },
-        Name::Report => Call::Report { a, b },
-        Name::Pull => Call::Pull { a, b },
-        Name::Settle => Call::Settle { a, b, f, payload },
-        Name::Retire => Call::Retire { a, b },
-        // the last replica stays, so that there is something to call
-        Name::Vacate if model.in_use() > 1 => Call::Vacate { a },
-        Name::Edit | Name::Vacate => Call::Edit { a, f, payload },
-    }
+}
+
+// Whether no replica would be left.
+fn ends<M: Kind, P: Sample>(call: &Writing<P>, model: &Model<M>) -> bool {
+    matches!(call, Writing::Drop { .. }) && model.in_use() <= 1
 }
 
 // A berth that is in use or not, as is wanted; where the call is to be wrong, at
@@ -202,9 +203,9 @@ fn draw_file(from: &mut Generator, files: usize, wrong: bool) -> usize {
 }
 
 // Few numbers, so that some copies in conflict are twins; or one of many.
-fn draw_payload(from: &mut Generator) -> u64 {
+fn draw_payload<P: Sample>(from: &mut Generator) -> P {
     let bound = if from.chance(50) { 3 } else { 9000 };
-    from.below(bound) as u64
+    P::sample(from.below(bound) as u64)
 }
 
 // As long as the files, or longer; where the call is to be wrong, at times shorter.

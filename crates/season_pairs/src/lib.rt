@@ -8,6 +8,7 @@
 
 #![tactic(auto)]
 
+mod answers;
 mod cards;
 mod drawing;
 mod generator;

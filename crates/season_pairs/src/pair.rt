@@ -1,10 +1,12 @@
+use crate::answers::told;
 use crate::drawing::Order;
-use crate::samples::Sample;
+use crate::samples::{Sample, Samples};
 use crate::tables::Tables;
 use crate::tally::Tally;
 use anyhow::{Result, ensure};
 use clock::Clock;
-use edit_model::{Answer, Call, Kind, Model};
+use edit_model::{Answer, Kind, Model, Needs};
+use history::{Call, Reading};
 use std::alloc::Global;
 use std::fmt::Display;
 use yard::{Card, OpenCard};
@@ -18,30 +20,59 @@ pub struct Pair<C: Clock, M: Kind, P: Copy> {
     pub model: Model<M>,
 }
 
-impl<C: Clock, M: Kind, P: Sample> Pair<C, M, P> {
+impl<C, M, P> Pair<C, M, P>
+where
+    C: Clock + Display,
+    C::Pen: Display,
+    M: Kind,
+    P: Sample,
+{
     /// Makes a call on both; the answers and the buffers are to be the same.
-    pub fn call(&mut self, card: &OpenCard, order: &Order) -> Result<Answer> {
+    pub fn call(&mut self, card: &OpenCard, order: &Order<Call<P>>) -> Result<Answer> {
         let mut bytes = vec![in self.heap; order.byte; order.room]?;
-        let came = self.tables.answer(card, order.call, &mut bytes);
-        self.expect(order, came, &bytes)?;
-        Ok(came)
-    }
-
-    // The model's answer and buffer are to be these.
-    fn expect(&mut self, order: &Order, came: Answer, bytes: &[u8]) -> Result<()> {
-        let mut wanted = vec![in self.heap; order.byte; order.room]?;
-        let expected = self
-            .model
-            .answer(order.call, order.is_other(), &mut wanted)?;
-        same_answer(expected, came)?;
-        same_bytes(&wanted, bytes)
+        let came = match order.call {
+            Call::Reads(reading) => self.tables.read(card, reading, &mut bytes),
+            Call::Writes(writing) => self.tables.write(card, writing, &mut bytes),
+            // no season draws it: at its end it seals its cards
+            Call::Seal => Ok(history::Answer::Done),
+        };
+        self.expect(
+            &order.call,
+            order.is_other(),
+            order.byte,
+            told(self.heap, came)?,
+            &bytes,
+        )
     }
 
     /// The same for a call that reads, under either card.
-    pub fn read<K: Card>(&mut self, card: &K, order: &Order) -> Result<Answer> {
+    pub fn read<K: Card>(&mut self, card: &K, order: &Order<Reading>) -> Result<Answer> {
         let mut bytes = vec![in self.heap; order.byte; order.room]?;
-        let came = self.tables.reading(card, order.call, &mut bytes);
-        self.expect(order, came, &bytes)?;
+        let came = self.tables.read(card, order.call, &mut bytes);
+        let call = Call::Reads(order.call);
+        self.expect(
+            &call,
+            order.is_other(),
+            order.byte,
+            told(self.heap, came)?,
+            &bytes,
+        )
+    }
+
+    // The model's answer is to be the one that came, and so the buffer, whose bytes
+    // were all `byte` beforehand.
+    fn expect(
+        &mut self,
+        call: &Call<P>,
+        other: bool,
+        byte: u8,
+        came: Answer,
+        bytes: &[u8],
+    ) -> Result<Answer> {
+        let mut wanted = vec![in self.heap; byte; bytes.len()]?;
+        let expected = self.model.answer::<Samples, P>(call, other, &mut wanted)?;
+        ensure!(came == expected, "expected {expected}, came {came}");
+        same_bytes(&wanted, bytes)?;
         Ok(came)
     }
 
@@ -94,8 +125,8 @@ impl<C: Clock, M: Kind, P: Sample> Pair<C, M, P> {
     ) -> Result<()> {
         for f in 0..self.model.files {
             let expected = self.expected_verdict(a, b, f)?;
-            let call = Call::Judge { a, b, f };
-            let came = self.tables.reading(card, call, &mut []);
+            let call = Reading::Judge { a, b, f };
+            let came = told(self.heap, self.tables.read(card, call, &mut []))?;
             ensure!(
                 came == Answer::Verdict(expected),
                 "{a} against {b}, file {f}: expected verdict {expected}, came {came}"
@@ -121,12 +152,7 @@ impl<C: Clock, M: Kind, P: Sample> Pair<C, M, P> {
         );
         Ok(expected)
     }
-}
 
-impl<C: Clock + Display, M: Kind, P: Sample> Pair<C, M, P>
-where
-    C::Pen: Display,
-{
     /// The pen and the clocks of berth b, as the kind writes them.
     pub fn compare_words(&self, b: usize, tally: &mut Tally) -> Result<()> {
         let row = self.model.row(b)?;
@@ -144,8 +170,10 @@ where
     }
 
     /// The same of the berths that a call names.
-    pub fn compare_named(&self, call: Call, tally: &mut Tally) -> Result<()> {
-        let needs = call.needs();
+    pub fn compare_named(&self, call: &Call<P>, tally: &mut Tally) -> Result<()> {
+        let Some(needs) = Needs::of(call) else {
+            return Ok(());
+        };
         for berth in [Some(needs.a), needs.b] {
             if let Some(b) = berth.filter(|b| *b < self.model.berths) {
                 self.compare_words(b, tally)?;
@@ -162,11 +190,6 @@ where
         self.compare_tables()?;
         self.compare_verdicts(card, tally)
     }
-}
-
-fn same_answer(expected: Answer, came: Answer) -> Result<()> {
-    ensure!(came == expected, "expected {expected}, came {came}");
-    Ok(())
 }
 
 fn same_bytes(expected: &[u8], came: &[u8]) -> Result<()> {

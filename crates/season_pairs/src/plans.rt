@@ -1,6 +1,6 @@
 use crate::scripts::Script;
 
-/// How often each call is drawn, in parts of their sum.
+/// In how many of a hundred draws each call comes; in the others it is drop.
 #[derive(Clone, Copy)]
 pub struct Weights {
     pub fork: usize,
@@ -10,7 +10,6 @@ pub struct Weights {
     pub pull: usize,
     pub settle: usize,
     pub retire: usize,
-    pub vacate: usize,
 }
 
 /// What a season runs.
@@ -47,7 +46,6 @@ pub const ORDINARY: Weights = Weights {
     pull: 15,
     settle: 14,
     retire: 9,
-    vacate: 2,
 };
 
 /// Replicas that come and go.
@@ -59,7 +57,6 @@ const CHURN: Weights = Weights {
     pull: 14,
     settle: 4,
     retire: 24,
-    vacate: 8,
 };
 
 /// Pens in small parts, and their clocks joined again.
@@ -71,7 +68,17 @@ const JOINS: Weights = Weights {
     pull: 8,
     settle: 26,
     retire: 2,
-    vacate: 6,
+};
+
+/// Each call in one of eight draws, drop in the eighth.
+pub const EVENLY: Weights = Weights {
+    fork: 1,
+    edit: 1,
+    judge: 1,
+    report: 1,
+    pull: 1,
+    settle: 1,
+    retire: 1,
 };
 
 const SMALL: Plan = Plan {

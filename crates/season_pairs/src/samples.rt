@@ -1,11 +1,13 @@
 ghost use Rattle.std.specs.Prelude.{◌==◌, refl};
 ghost use Rattle.std.proofs.Common.{sym, ◌∙◌, eq-eqb, eqb-true};
 
-use payload::{Payload, Ticket, Valve};
+use edit_model::Numbering;
+use payload::{Case, Payload, Ticket, Valve};
+use std::fmt::Debug;
 
 /// A payload kind with a payload for each of the model's numbers, different ones
 /// for different numbers: so two are alike exactly where their numbers are one.
-pub trait Sample: Payload + PartialEq {
+pub trait Sample: Payload + PartialEq + Debug {
     /// The kind's name, as the summary prints it.
     const NAME: &'static str;
 
@@ -14,6 +16,18 @@ pub trait Sample: Payload + PartialEq {
 
     /// The payload that stands for this number, below 10,000.
     fn sample(number: u64) -> Self;
+
+    /// The number that it stands for, by its parts.
+    fn as_number(&self) -> u64;
+}
+
+/// The numbers of the samples, for the model.
+pub struct Samples;
+
+impl<P: Sample> Numbering<P> for Samples {
+    fn number(payload: &P) -> u64 {
+        payload.as_number()
+    }
 }
 
 /// Shut, open, the 99 parts, and then flows.
@@ -31,6 +45,16 @@ impl Sample for Valve {
         };
         valve.unwrap_or(Valve::open())
     }
+
+    fn as_number(&self) -> u64 {
+        let number = self.number() as u64;
+        match self.case() {
+            Case::Shut => 0,
+            Case::Open => 1,
+            Case::Part => number + 1,
+            Case::Flow => number + 101,
+        }
+    }
 }
 
 /// Tickets that differ in one byte of the digest, or only in the length.
@@ -47,6 +71,12 @@ impl Sample for Ticket {
             }
         }
         Ticket::new(digest, number / 33)
+    }
+
+    fn as_number(&self) -> u64 {
+        let place = self.digest().iter().position(|byte| *byte == 8);
+        let place = place.unwrap_or(32) as u64;
+        self.length().saturating_mul(33).saturating_add(place)
     }
 }
 
@@ -77,5 +107,9 @@ impl Sample for Label {
 
     fn sample(number: u64) -> Label {
         Label(number)
+    }
+
+    fn as_number(&self) -> u64 {
+        self.0
     }
 }

@@ -1,4 +1,5 @@
-use edit_model::Call;
+use crate::samples::Sample;
+use history::{Call, Writing};
 
 /// The calls that a season begins with.
 #[derive(Clone, Copy)]
@@ -15,44 +16,46 @@ pub enum Script {
     Even,
 }
 
-// Four quarters, of which two are lost, and edits with the other two.
-const EVEN: [Call; 7] = [
-    Call::Fork { a: 0, b: 1 },
-    Call::Fork { a: 0, b: 2 },
-    Call::Fork { a: 1, b: 3 },
-    Call::Vacate { a: 2 },
-    Call::Vacate { a: 3 },
-    Call::Retire { a: 1, b: 0 },
-    Call::Edit {
-        a: 0,
-        f: 1,
-        payload: 5,
-    },
-];
-
 impl Script {
     /// The call of this number, counted from 0.
-    pub fn call(self, number: usize) -> Call {
-        match self {
-            Script::Edits { forks } if number < forks => Call::Fork {
+    pub fn call<P: Sample>(self, number: usize) -> Call<P> {
+        Call::Writes(match self {
+            Script::Edits { forks } if number < forks => Writing::Fork {
                 a: 0,
                 b: number.saturating_add(1),
             },
             Script::Scatter if number < 74 => scatter(number),
-            Script::Even if number < EVEN.len() => EVEN[number],
-            _ => Call::Edit {
+            Script::Even if number < 7 => even(number),
+            _ => Writing::Edit {
                 a: 0,
                 f: 0,
-                payload: number as u64 % 9000,
+                payload: P::sample(number as u64 % 9000),
             },
-        }
+        })
+    }
+}
+
+// Four quarters, of which two are lost, and edits with the other two.
+fn even<P: Sample>(number: usize) -> Writing<P> {
+    match number {
+        0 => Writing::Fork { a: 0, b: 1 },
+        1 => Writing::Fork { a: 0, b: 2 },
+        2 => Writing::Fork { a: 1, b: 3 },
+        3 => Writing::Drop { a: 2 },
+        4 => Writing::Drop { a: 3 },
+        5 => Writing::Retire { a: 1, b: 0 },
+        _ => Writing::Edit {
+            a: 0,
+            f: 1,
+            payload: P::sample(5),
+        },
     }
 }
 
 // 14 forks, 46 calls that halve the pens, 14 retirements, and edits.
-fn scatter(number: usize) -> Call {
+fn scatter<P>(number: usize) -> Writing<P> {
     if number < 14 {
-        return Call::Fork {
+        return Writing::Fork {
             a: (number + 1) / 2,
             b: number + 1,
         };
@@ -61,12 +64,12 @@ fn scatter(number: usize) -> Call {
         let step = number - 14;
         let a = step / 2 % 15;
         return if step % 2 == 0 {
-            Call::Fork { a, b: 15 }
+            Writing::Fork { a, b: 15 }
         } else {
-            Call::Vacate { a: 15 }
+            Writing::Drop { a: 15 }
         };
     }
-    Call::Retire {
+    Writing::Retire {
         a: number - 59,
         b: 0,
     }

@@ -10,6 +10,7 @@ use crate::tally::Tally;
 use anyhow::{Context, Result};
 use clock::Clock;
 use edit_model::{Kind, Model};
+use history::Call;
 use std::alloc::Global;
 use std::fmt::Display;
 use yard::OpenCard;
@@ -129,11 +130,11 @@ where
     // Of calls with any arguments those that are to be refused with 1 to 6.
     fn rough(&mut self) -> Result<()> {
         for number in 0..self.plan.rough {
-            let order = draw_rough(&mut self.from, &self.plan);
+            let order = draw_rough::<P>(&mut self.from, &self.plan);
             let due = self
                 .pair
                 .model
-                .refusal(order.call, order.is_other(), order.room);
+                .refusal(&order.call, order.is_other(), order.room);
             if due.is_some() {
                 self.step(&order)
                     .context(format_args!("rough call {number}: {:?}", order.call))?;
@@ -143,7 +144,7 @@ where
     }
 
     // One call, and what is compared after it.
-    fn step(&mut self, order: &Order) -> Result<()> {
+    fn step(&mut self, order: &Order<Call<P>>) -> Result<()> {
         let answer = self.pair.call(self.cards.of(order.given), order)?;
         self.tally.count(&answer);
         let every = self.plan.every;
@@ -155,7 +156,7 @@ where
         if let Script::Edits { .. } = self.plan.script {
             return Ok(());
         }
-        self.pair.compare_named(order.call, &mut self.tally)
+        self.pair.compare_named(&order.call, &mut self.tally)
     }
 
     fn compare_all(&mut self) -> Result<()> {

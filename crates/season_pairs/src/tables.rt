@@ -3,14 +3,10 @@ ghost use Rattle.yard.specs.Entries.{Pens, Clocks};
 use crate::samples::Sample;
 use anyhow::Result;
 use clock::{Clock, Fault};
-use edit_model::{Answer, Call};
-use history::{Berth, Record, State};
+use history::{Answer, Berth, Reading, Record, State, Writing};
 use std::alloc::Global;
 use std::fmt::Display;
-use yard::{
-    Card, OpenCard, blank_berth, blank_copy, drop, edit, fork, judge, open, pull, report, retire,
-    settle,
-};
+use yard::{Card, OpenCard, blank_berth, blank_copy, open};
 
 /// The tables of a yard, whose pens and clocks are all well made.
 #[derive(Drop)]
@@ -41,96 +37,24 @@ impl<C: Clock, P: Sample> Tables<C, P> {
         }
     }
 
-    /// Makes the call.
-    pub fn answer(&mut self, card: &OpenCard, call: Call, bytes: &mut [u8]) -> Answer {
-        let answer = match call {
-            Call::Fork { a, b } => self.fork(card, a, b),
-            Call::Edit { a, f, payload } => self.edit(card, a, f, payload),
-            Call::Pull { a, b } => self.pull(card, bytes, a, b),
-            Call::Settle { a, b, f, payload } => self.settle(card, a, b, f, payload),
-            Call::Retire { a, b } => self.retire(card, a, b),
-            Call::Vacate { a } => self.vacate(card, a),
-            Call::Judge { .. } | Call::Report { .. } => return self.reading(card, call, bytes),
-        };
-        answer.unwrap_or_else(|fault| Answer::from(fault))
-    }
-
-    /// Makes a call of judge or report, under either card.
-    pub fn reading<K: Card>(&self, card: &K, call: Call, bytes: &mut [u8]) -> Answer {
-        let answer = match call {
-            Call::Judge { a, b, f } => self.judge(card, a, b, f),
-            Call::Report { a, b } => self.report(card, bytes, a, b),
-            _ => return Answer::Done,
-        };
-        answer.unwrap_or_else(|fault| Answer::from(fault))
-    }
-
-    fn fork(&mut self, card: &OpenCard, a: usize, b: usize) -> Result<Answer, Fault> {
-        fork::<C, P>(card, &mut self.berths, &mut self.copies, a, b)?;
-        Ok(Answer::Done)
-    }
-
-    fn edit(&mut self, card: &OpenCard, a: usize, f: usize, payload: u64) -> Result<Answer, Fault> {
-        let payload = P::sample(payload);
-        edit::<C, P>(card, &self.berths, &mut self.copies, a, f, payload)?;
-        Ok(Answer::Done)
-    }
-
-    fn pull(
+    /// Makes a call that writes.
+    pub fn write(
         &mut self,
         card: &OpenCard,
+        call: Writing<P>,
         bytes: &mut [u8],
-        a: usize,
-        b: usize,
-    ) -> Result<Answer, Fault> {
-        let (taken, conflicts) = pull::<C, P>(card, &self.berths, &mut self.copies, bytes, a, b)?;
-        Ok(Answer::Taken(taken, conflicts))
+    ) -> Result<Answer<C::Pen, C>, Fault> {
+        yard::write(card, &mut self.berths, &mut self.copies, bytes, call)
     }
 
-    fn settle(
-        &mut self,
-        card: &OpenCard,
-        a: usize,
-        b: usize,
-        f: usize,
-        payload: u64,
-    ) -> Result<Answer, Fault> {
-        let payload = P::sample(payload);
-        settle::<C, P>(card, &self.berths, &mut self.copies, a, b, f, payload)?;
-        Ok(Answer::Done)
-    }
-
-    fn retire(&mut self, card: &OpenCard, a: usize, b: usize) -> Result<Answer, Fault> {
-        retire::<C, P>(card, &mut self.berths, &mut self.copies, a, b)?;
-        Ok(Answer::Done)
-    }
-
-    fn vacate(&mut self, card: &OpenCard, a: usize) -> Result<Answer, Fault> {
-        drop::<C, P>(card, &mut self.berths, &self.copies, a)?;
-        Ok(Answer::Done)
-    }
-
-    fn judge<K: Card>(&self, card: &K, a: usize, b: usize, f: usize) -> Result<Answer, Fault> {
-        let verdict = judge::<K, C, P>(card, &self.berths, &self.copies, a, b, f)?;
-        Ok(Answer::Verdict(verdict.into()))
-    }
-
-    fn report<K: Card>(
+    /// Makes a call that reads, under either card.
+    pub fn read<K: Card>(
         &self,
         card: &K,
+        call: Reading,
         bytes: &mut [u8],
-        a: usize,
-        b: usize,
-    ) -> Result<Answer, Fault> {
-        let (equal, stale, ahead, conflicts, twins) = report::<K, C, P>(
-            card,
-            &self.berths,
-            &self.copies,
-            bytes,
-            a,
-            b,
-        )?;
-        Ok(Answer::Counts(equal, stale, ahead, conflicts, twins))
+    ) -> Result<Answer<C::Pen, C>, Fault> {
+        yard::read(card, &self.berths, &self.copies, bytes, call)
     }
 
     /// Whether berth b is in use.

@@ -36,10 +36,10 @@ impl Tally {
         } else {
             self.accepted = self.accepted.saturating_add(1);
         }
-        match *answer {
-            Answer::Verdict(verdict) => self.count_verdict(verdict, 1),
+        match answer {
+            Answer::Verdict(verdict) => self.count_verdict(*verdict, 1),
             Answer::Counts(equal, stale, ahead, conflicts, _) => {
-                for (verdict, count) in [equal, stale, ahead, conflicts].iter().enumerate() {
+                for (verdict, count) in [*equal, *stale, *ahead, *conflicts].iter().enumerate() {
                     self.count_verdict(verdict as u8, *count);
                 }
             }
