@@ -13,7 +13,7 @@ loop-i-preserved g c =
     let l = mod_below c.loop-i.i (length c.args.payloads.now) c.requires in (
       upto_write (copy_rule g.C.Clock.meaning c.args.payloads.now) c.args.copies.now c.loop-i.copies c.loop-i.i _ (omega arith) c.loop-i.invariant.0
           (payload_is g.C.Clock.meaning c.args.payloads.now c.loop-i.i _ c.blank.result c.index-payloads-f.result refl (slice_get_read c.args.payloads.now (length c.args.payloads.now) _ c.index-payloads-f.result refl l c.index-payloads-f.is) c.blank.ensures),
-      length-set c.loop-i.copies c.loop-i.i _ ∙ c.loop-i.invariant.1,
+      length-set c.loop-i.copies c.loop-i.i (record { clock = c.blank.result; payload = c.index-payloads-f.result }) ∙ c.loop-i.invariant.1,
     )
 
 pub returns : goal.returns
