@@ -2,15 +2,45 @@ use clock::Fault;
 use history::Answer;
 use std::fmt;
 
-/// What a call of a yard answers, or its refusal.
+/// What a call of a yard answers, or its refusal. No call here shows a pen and a
+/// clock: without them an outcome is small, and a season of trees loses no time.
 #[derive(Clone, Copy)]
-pub(crate) struct Outcome<Q, C> {
-    pub answer: Result<Answer<Q, C>, Fault>,
+pub(crate) struct Outcome {
+    answer: Result<Answer<(), ()>, Fault>,
 }
 
-impl<Q, C> Outcome<Q, C> {
-    /// A number that depends on the whole answer, for the sum over a run; of pens
-    /// and clocks, which the library's calls never show, it takes nothing.
+impl Outcome {
+    /// It is done, and there is nothing to say.
+    pub(crate) fn done() -> Outcome {
+        let answer = Ok(Answer::Done);
+        Outcome { answer }
+    }
+
+    /// The yard's answer; of one that shows, that it was done.
+    #[inline]
+    pub(crate) fn of<Q: Copy, C: Copy>(answer: Result<Answer<Q, C>, Fault>) -> Outcome {
+        let answer = answer.map(|answer| match answer {
+            Answer::Done | Answer::Shown { .. } => Answer::Done,
+            Answer::Judged(verdict) => Answer::Judged(verdict),
+            Answer::Pulled { taken, conflicts } => Answer::Pulled { taken, conflicts },
+            Answer::Reported {
+                equal,
+                stale,
+                ahead,
+                conflicts,
+                twins,
+            } => Answer::Reported {
+                equal,
+                stale,
+                ahead,
+                conflicts,
+                twins,
+            },
+        });
+        Outcome { answer }
+    }
+
+    /// A number that depends on the whole answer, for the sum over a run.
     pub(crate) fn number(&self) -> u64 {
         match &self.answer {
             Ok(Answer::Done | Answer::Shown { .. }) => 1,
@@ -40,10 +70,10 @@ fn sum(counts: [usize; 5]) -> u64 {
 }
 
 /// As a log prints it: `done`, `conflict`, `refused 7 berth 1 file 0`.
-impl<Q: fmt::Display, C: fmt::Display> fmt::Display for Outcome<Q, C> {
+impl fmt::Display for Outcome {
     fn fmt<W: fmt::Write>(&self, f: &mut fmt::Formatter<W>) -> fmt::Result {
         match &self.answer {
-            Ok(Answer::Done) => f.write_str("done"),
+            Ok(Answer::Done | Answer::Shown { .. }) => f.write_str("done"),
             Ok(Answer::Judged(verdict)) => write!(f, "{verdict}"),
             Ok(Answer::Pulled { taken, conflicts }) => {
                 write!(f, "taken {taken} conflicts {conflicts}")
@@ -57,7 +87,6 @@ impl<Q: fmt::Display, C: fmt::Display> fmt::Display for Outcome<Q, C> {
                     twins,
                 },
             ) => write!(f, "report {equal} {stale} {ahead} {conflicts} {twins}"),
-            Ok(Answer::Shown { pen, clock }) => write!(f, "{pen} {clock}"),
             Err(fault) => write!(f, "{fault}"),
         }
     }

@@ -4,7 +4,7 @@ ghost use Rattle.history.specs.Tables.{Made};
 use crate::calls::{YardCall, ticket};
 use crate::outcomes::Outcome;
 use clock::{Clock, Fault};
-use history::{Answer, Berth, Call, Record};
+use history::{Berth, Call, Record};
 use payload::Ticket;
 use std::fmt::Display;
 use std::io;
@@ -23,17 +23,16 @@ pub(crate) fn make<C: Clock>(
     copies: &mut [Record<C, Ticket>],
     bytes: &mut [u8],
     call: &YardCall,
-) -> Outcome<C::Pen, C>
+) -> Outcome
     requires made { Made C.Clock.meaning berths.old copies.old }
     ensures made { Made C.Clock.meaning berths.new copies.new }
 {
-    let answer = match call.call() {
-        Call::Reads(reading) => yard::read(card, berths, copies, bytes, reading),
-        Call::Writes(writing) => yard::write(card, berths, copies, bytes, writing),
+    match call.call() {
+        Call::Reads(call) => Outcome::of(yard::read(card, berths, copies, bytes, call)),
+        Call::Writes(call) => Outcome::of(yard::write(card, berths, copies, bytes, call)),
         // no number stands for it
-        Call::Seal => Ok(Answer::Done),
-    };
-    Outcome { answer }
+        Call::Seal => Outcome::done(),
+    }
 }
 
 /// A season from open on. The sum of the outcomes' numbers.
@@ -72,10 +71,7 @@ fn write_season<C: Clock + Display>(
     berths: &mut [Berth<C::Pen>],
     copies: &mut [Record<C, Ticket>],
     calls: &[YardCall],
-) -> io::Result<()>
-where
-    C::Pen: Display,
-{
+) -> io::Result<()> {
     let Ok(card) = yard::open(berths, copies, &[ticket(0); FILES]) else {
         return writeln!(page, "refused");
     };
@@ -98,8 +94,6 @@ pub(crate) fn tell_season<C: Clock + Display>(
     calls: &[YardCall],
     text: &mut [u8],
 ) -> usize
-where
-    C::Pen: Display,
     ensures { result ≤ length text.old }
 {
     let room = text.len();
