@@ -3,7 +3,7 @@ use crate::drawing::Order;
 use crate::samples::{Sample, Samples};
 use crate::tables::Tables;
 use crate::tally::Tally;
-use anyhow::{Result, ensure};
+use anyhow::{Context, Result, ensure};
 use clock::Clock;
 use edit_model::{Answer, Kind, Model, Needs};
 use history::{Call, Reading};
@@ -182,8 +182,22 @@ where
         Ok(())
     }
 
-    /// Every pen and clock, every state and payload, and every verdict.
-    pub fn compare_all<K: Card>(&self, card: &K, tally: &mut Tally) -> Result<()> {
+    // What show answers of every copy, or refuses.
+    fn compare_shown<K: Card>(&mut self, card: &K) -> Result<()> {
+        for a in 0..self.model.berths {
+            for f in 0..self.model.files {
+                let order = Order::plain(Reading::Show { a, f }, 0);
+                self.read(card, &order)
+                    .context(format_args!("berth {a} file {f} shown"))?;
+            }
+        }
+        Ok(())
+    }
+
+    /// Every pen and clock, also as show answers them, every state and payload, and
+    /// every verdict.
+    pub fn compare_all<K: Card>(&mut self, card: &K, tally: &mut Tally) -> Result<()> {
+        self.compare_shown(card)?;
         for b in 0..self.model.berths {
             self.compare_words(b, tally)?;
         }
