@@ -1,13 +1,14 @@
 -- The edits behind each copy, and what is said of them: the words of the history law.
 --
--- They are kept from the calls, their arguments and whether each was accepted. Nothing here is read from a
--- clock, a pen or a table.
+-- They are kept from the calls, their arguments and whether each was accepted. Nothing here is read
+-- from a clock, a pen or a table.
 --
 -- edit             an accepted edit or settle; they are numbered from 0
 -- set              a set of edits, as a list of their numbers
 -- has, inside      whether a set has a number, and whether all of one set's are the other's
 -- Edited           an edit's payload, and the edits behind it as it was made
--- History          the next number, the edits, which berths have copies, and the set behind each copy
+-- History          the next number, the edits, which berths have copies, and the set behind each
+--                  copy
 -- start            the history after open
 -- numbered         an edit with the next number
 -- moved_to         the same edits, with other copies
@@ -15,9 +16,10 @@
 -- Inside s t       all of s's edits are t's
 -- Compares v s t   verdict v says how the set s stands against the set t
 -- ComparesByte     the same of a byte of a report
--- Last set n p     edit n is in the set, was made with exactly all the others behind it, and with payload p
--- Holds            a copy holds the opening payload if no edit is behind it, else that of the one edit behind it
---                  that was made with exactly all the others behind it
+-- Last set n p     edit n is in the set, was made with exactly all the others behind it, and with
+--                  payload p
+-- Holds            a copy holds the opening payload if no edit is behind it, else that of the one
+--                  edit behind it that was made with exactly all the others behind it
 -- Still            every edit behind some copy before is behind some copy after
 use Rattle.std.specs.Prelude.{◌≡◌, ℕ, suc, ◌<◌, Bool, true, false, if◌then◌else◌, not, ◌&&◌, ◌||◌, ◌⊎◌, ◌↔◌, List, [], ◌∷◌, Some, None, Option, ◌==◌}
 use Rattle.clock.specs.declared.verdicts.Verdict.{Verdict}

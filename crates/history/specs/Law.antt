@@ -1,27 +1,28 @@
 -- The law of histories.
 --
--- Every verdict compares the accepted edits behind two copies of one file just before the call that gives or uses it:
--- that is `EveryVerdict`, which stands on each call's contract of the yard as the call was handed it
--- (`Kept.before.every`), refused calls included.
+-- Every verdict compares the accepted edits behind two copies of one file just before the call that
+-- gives or uses it: that is `EveryVerdict`, which stands on each call's contract of the yard as the
+-- call was handed it (`Kept.before.every`), refused calls included.
 --
 -- Yard             the tables and the history
 -- called           the yard after a call
--- Reached          the yards that a list of calls leads to from what an accepted open left, with any cards, berths,
---                  files, payloads and buffers
--- EveryVerdict     every verdict on two copies of one file that a call of the yard can give or use compares the edits
---                  behind the two: whatever card passes the check of the sizes, for any two berths in use, which may
---                  be one, and any file
--- Lawful           of one call: its page's `gives` and `rests_on`; every edit behind some copy just before is behind
---                  some copy still, unless the call is accepted and of a kind that loses edits, as drop alone; 12
---                  never comes
--- Points           of one yard: its tables are well made, the berths in use have the copies, every verdict compares,
---                  copies judged equal hold the same payload, pens of different berths have no mark in common, and
---                  every further call is lawful
+-- Reached          the yards that a list of calls leads to from what an accepted open left, with
+--                  any cards, berths, files, payloads and buffers
+-- EveryVerdict     every verdict on two copies of one file that a call of the yard can give or use
+--                  compares the edits behind the two: whatever card passes the check of the sizes,
+--                  for any two berths in use, which may be one, and any file
+-- Lawful           of one call: its page's `gives` and `rests_on`; every edit behind some copy just
+--                  before is behind some copy still, unless the call is accepted and of a kind that
+--                  loses edits, as drop alone; 12 never comes
+-- Points           of one yard: its tables are well made, the berths in use have the copies, every
+--                  verdict compares, copies judged equal hold the same payload, pens of different
+--                  berths have no mark in common, and every further call is lawful
 -- LawOf            the points hold of every yard that calls lead to
--- Kept             of one call: the points of the yard as it was handed in, what the call does, and the points of the
---                  yard that it leaves
+-- Kept             of one call: the points of the yard as it was handed in, what the call does, and
+--                  the points of the yard that it leaves
 -- LawfulCall       that, whatever calls led to the tables as handed in
--- LawfulAt         the same, whatever test says that two payloads are alike: for a call that does not ask it
+-- LawfulAt         the same, whatever test says that two payloads are alike: for a call that does
+--                  not ask it
 -- LawfulOpen       the same at open
 use Rattle.std.specs.Prelude.{◌≡◌, ◌≢◌, ℕ, ◌+◌, ◌*◌, ◌<◌, Bool, true, false, ◌&&◌, List, [], ◌∷◌, length, Some, None, Ok, Err, Result}
 use Rattle.std.specs.List.{slice_get}

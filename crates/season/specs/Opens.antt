@@ -1,6 +1,7 @@
 -- What an open of a season leaves, and what is said where there is no season.
 --
--- Opened m berths payloads h   the season h is what open leaves of tables of so many berths, with a file for each payload
+-- Opened m berths payloads h   the season h is what open leaves of tables of so many berths, with a
+--                              file for each payload
 -- within berths files          a yard can have so many berths and files
 -- open_error_text e            why there is no season
 use Rattle.std.specs.Prelude.{◌≡◌, ℕ, ◌*◌, ◌&&◌, Bool, List, [], length, Ok, codes, nat_le}

@@ -1,6 +1,7 @@
 -- Tables that calls lead to, and what a verdict on them says.
 --
--- Replayed m alike bs cs              some list of calls leads to these tables, from what an accepted open left
+-- Replayed m alike bs cs              some list of calls leads to these tables, from what an
+--                                     accepted open left
 -- Behind m alike h a b f v            in the season h the verdict v compares the edits behind a's
 --                                     and b's copies of file f, as those calls made them
 -- EachBehind m alike h a b bytes      the same of byte f of a buffer, for each file f

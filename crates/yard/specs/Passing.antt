@@ -1,4 +1,5 @@
--- How the code of a call goes through its checks: each answers `Ok` where it is not due, else the refusal.
+-- How the code of a call goes through its checks: each answers `Ok` where it is not due, else the
+-- refusal.
 --
 -- passing o       `Ok` where no refusal is due, else that refusal
 -- all_pass l      the first refusal of a list of checks, else `Ok`

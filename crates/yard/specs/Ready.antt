@@ -1,4 +1,5 @@
--- What holds of two berths once a call's checks of them have passed: what the code below the checks asks for.
+-- What holds of two berths once a call's checks of them have passed: what the code below the checks
+-- asks for.
 use Rattle.std.specs.Prelude.{◌≡◌, ℕ, ◌*◌, ◌<◌, ◌≤◌}
 use Rattle.history.specs.Tables.{Card}
 

@@ -16,9 +16,9 @@ pub fn refuse_if(is_due: bool, fault: Fault) -> Result<(), Fault>
 }
 
 // The two tables are two parameters, and no struct: a call borrows for writing only the table that
-// it writes. Two berths, or a berth and a file, are no one thing either. `Ready` ties two berths, the
-// sizes and a lent table: no one value holds them, and a struct of them would have a maker for each
-// call, with the proof that the call's own checks give it.
+// it writes. Two berths, or a berth and a file, are no one thing either. `Ready` ties two berths,
+// the sizes and a lent table: no one value holds them, and a struct of them would have a maker for
+// each call, with the proof that the call's own checks give it.
 
 /// 1: the tables are of the card's sizes, which are within the limits.
 pub fn check_sizes<X, Y>(sizes: Sizes, berths: &[X], copies: &[Y]) -> Result<(), Fault>

@@ -30,8 +30,8 @@ fn check_pull<Q, C, P>(
     check_buffer(sizes, bytes)
 }
 
-// The places of both rows, as in `take_files`. `bytes[f]`, and no zip with `iter_mut`: after that the
-// check knows nothing of the bytes.
+// The places of both rows, as in `take_files`. `bytes[f]`, and no zip with `iter_mut`: after that
+// the check knows nothing of the bytes.
 fn pull_files<C: Clock, P: Copy>(
     sizes: Sizes,
     copies: &mut [Record<C, P>],
