@@ -4,7 +4,7 @@ use crate::kinds::Kind;
 use crate::model::{Kept, Model};
 use crate::numbering::Numbering;
 use anyhow::{Context, Result};
-use history::{Call, Reading, Writing};
+use yard_rules::{Call, Reading, Writing};
 
 // The numbers of the verdicts that a rule names.
 const STALE: u8 = 1;

@@ -3,7 +3,7 @@ use crate::edit_sets::EditSet;
 use crate::kinds::Kind;
 use crate::needs::Needs;
 use anyhow::{Context, Result};
-use history::Call;
+use yard_rules::Call;
 use std::alloc::{AllocError, Global};
 
 /// What the model keeps of a copy: the edits behind it, the number of its

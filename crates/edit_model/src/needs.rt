@@ -1,4 +1,4 @@
-use history::{Call, Reading, Writing};
+use yard_rules::{Call, Reading, Writing};
 
 /// What a call needs before it looks at a copy.
 #[derive(Clone, Copy)]

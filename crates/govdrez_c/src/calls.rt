@@ -1,4 +1,4 @@
-use history::{Call, Reading, Writing};
+use yard_rules::{Call, Reading, Writing};
 use payload::Ticket;
 
 // The calls of a yard, by the number that a `YardCall` gives.

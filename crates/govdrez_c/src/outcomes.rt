@@ -1,5 +1,5 @@
 use clock::Fault;
-use history::Answer;
+use yard_rules::Answer;
 use std::fmt;
 
 /// What a call of a yard answers, or its refusal. No call here shows a pen and a

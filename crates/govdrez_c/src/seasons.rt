@@ -1,10 +1,10 @@
 ghost use Rattle.std.specs.Prelude.{◌≤◌, length};
-ghost use Rattle.history.specs.Tables.{Made};
+ghost use Rattle.yard_rules.specs.Tables.{Made};
 
 use crate::calls::{YardCall, ticket};
 use crate::outcomes::Outcome;
 use clock::{Clock, Fault};
-use history::{Berth, Call, Record};
+use yard_rules::{Berth, Call, Record};
 use payload::Ticket;
 use std::fmt::Display;
 use std::io;

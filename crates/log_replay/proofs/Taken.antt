@@ -3,7 +3,7 @@ use Rattle.std.proofs.Common.{◌≡◌, ℕ, Bool, true, false, List, Some, Opt
 use Rattle.clock.specs.declared.faults.Fault.{Fault}
 use Rattle.clock.specs.Meaning.{Meaning}
 use Rattle.season_log.specs.declared.answers.Reply.{Reply}
-use Rattle.history.specs.declared.calls.Call.{Call}
+use Rattle.yard_rules.specs.declared.calls.Call.{Call}
 use Rattle.season_log.specs.declared.mistakes.Mistake.{Mistake}
 use Rattle.season_log.specs.declared.mistakes.Mistake.TheVariants.{Sealed}
 use Rattle.season_log.specs.declared.mistakes.PayloadError.{PayloadError}

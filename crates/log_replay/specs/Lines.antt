@@ -12,7 +12,7 @@ use Rattle.std.specs.Prelude.{◌≡◌, ◌⊎◌, Bool, true, false, ℕ, List
 use Rattle.clock.specs.declared.faults.Fault.{Fault}
 use Rattle.clock.specs.Meaning.{Meaning}
 use Rattle.season_log.specs.declared.answers.Reply.{Reply}
-use Rattle.history.specs.declared.calls.Call.{Call}
+use Rattle.yard_rules.specs.declared.calls.Call.{Call}
 use Rattle.season_log.specs.declared.mistakes.Mistake.{Mistake}
 use Rattle.season_log.specs.declared.mistakes.Mistake.TheVariants.{Sealed}
 use Rattle.season_log.specs.declared.mistakes.PayloadError.{PayloadError}

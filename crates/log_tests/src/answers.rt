@@ -1,6 +1,6 @@
 use crate::calls::prints;
 use clock::Verdict;
-use history::{Answer, Sizes};
+use yard_rules::{Answer, Sizes};
 use season_log::Reply;
 use std::process::Abort;
 use std::test::Fail;

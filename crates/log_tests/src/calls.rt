@@ -1,5 +1,5 @@
 use crate::DIGEST;
-use history::{Call, Reading, Writing};
+use yard_rules::{Call, Reading, Writing};
 use payload::{Ticket, TicketError, Valve};
 use season_log::{Kind, Mistake, Opening, PayloadError, PayloadKind, read_call, read_payload};
 use std::fmt::Display;

@@ -17,31 +17,31 @@ use Rattle.clock.specs.declared.verdicts.Verdict.TheVariants.{Stale, Ahead, Conf
 use Rattle.clock.specs.Causes.{number_of}
 use Rattle.clock.specs.Verdicts.{byte_of}
 use Rattle.clock.specs.Meaning.{Meaning}
-use Rattle.history.specs.declared.answers.Answer.{Answer}
-use Rattle.history.specs.declared.answers.Answer.TheVariants.{Done, Judged, Reported, Pulled, Shown}
-use Rattle.history.specs.declared.tables.State.TheVariants.{Empty}
-use Rattle.history.specs.declared.tables.Berth.{Berth}
-use Rattle.history.specs.declared.tables.Record.{Record}
-use Rattle.history.specs.Tables.{Card, sizes, works, working_berth}
-use Rattle.history.specs.Checks.{Left, left, fault}
-use Rattle.history.specs.Open.{open_result}
-use Rattle.history.specs.Page.{Asked}
-use Rattle.history.specs.Fork.{fork_call}
-use Rattle.history.specs.Edit.{edit_call}
-use Rattle.history.specs.Judge.{judge_call}
-use Rattle.history.specs.Report.{report_call}
-use Rattle.history.specs.Show.{show_call}
-use Rattle.history.specs.Pull.{pull_call}
-use Rattle.history.specs.Settle.{settle_call}
-use Rattle.history.specs.Retire.{retire_call}
-use Rattle.history.specs.Calls.{said}
+use Rattle.yard_rules.specs.declared.answers.Answer.{Answer}
+use Rattle.yard_rules.specs.declared.answers.Answer.TheVariants.{Done, Judged, Reported, Pulled, Shown}
+use Rattle.yard_rules.specs.declared.tables.State.TheVariants.{Empty}
+use Rattle.yard_rules.specs.declared.tables.Berth.{Berth}
+use Rattle.yard_rules.specs.declared.tables.Record.{Record}
+use Rattle.yard_rules.specs.Tables.{Card, sizes, works, working_berth}
+use Rattle.yard_rules.specs.Checks.{Outcome, outcome, fault}
+use Rattle.yard_rules.specs.Open.{open_result}
+use Rattle.yard_rules.specs.Page.{Asked}
+use Rattle.yard_rules.specs.Fork.{fork_call}
+use Rattle.yard_rules.specs.Edit.{edit_call}
+use Rattle.yard_rules.specs.Judge.{judge_call}
+use Rattle.yard_rules.specs.Report.{report_call}
+use Rattle.yard_rules.specs.Show.{show_call}
+use Rattle.yard_rules.specs.Pull.{pull_call}
+use Rattle.yard_rules.specs.Settle.{settle_call}
+use Rattle.yard_rules.specs.Retire.{retire_call}
+use Rattle.yard_rules.specs.Calls.{said}
 use Rattle.tree_rules.specs.Ids.{Id, off, on, pair}
 use Rattle.tree_rules.specs.Events.{Event, leaf, node}
 use Rattle.vector_clock.specs.declared.pens.Names.{Names}
 use Rattle.vector_clock.specs.declared.clocks.Counts.{Counts}
 
 pub data Step (Pen C : Type 0) : Type 0 where
-  step : Asked ℕ → Left Pen C ℕ (Answer Pen C) → Step Pen C
+  step : Asked ℕ → Outcome Pen C ℕ (Answer Pen C) → Step Pen C
 
 pub record Course (Pen C : Type 0) : Type 0 where
   pub whole : Pen
@@ -105,20 +105,20 @@ module _ {Pen C : Type 0} (k : Course Pen C) where
   -- payloads: 10 from open, 11 and 12 by edit, 13 by settle, 14 by the last edit
   abbrev pub day : List (Step Pen C)
   day =
-      step (fork_call yard 0 0) (left (Err (fault SameBerth (Some 0) None)) alone (copies k.blank 10 k.blank 10) [])
-      ∷ step (fork_call yard 0 1) (left (Ok Done) shared (copies k.blank 10 k.blank 10) [])
-      ∷ step (edit_call yard 0 0 11) (left (Ok Done) shared (copies k.edited_0 11 k.blank 10) [])
-      ∷ step (judge_call yard 0 1 0) (left (Ok (Judged Ahead)) shared (copies k.edited_0 11 k.blank 10) [])
-      ∷ step (edit_call yard 1 0 12) (left (Ok Done) shared (copies k.edited_0 11 k.edited_1 12) [])
-      ∷ step (judge_call yard 0 1 0) (left (Ok (Judged Conflict)) shared (copies k.edited_0 11 k.edited_1 12) [])
-      ∷ step (report_call yard 0 1 (9 ∷ 9 ∷ [])) (left (Ok (Reported 0 0 0 1 0)) shared (copies k.edited_0 11 k.edited_1 12) (3 ∷ 9 ∷ []))
-      ∷ step (settle_call yard 0 1 0 13) (left (Ok Done) shared (copies k.edited_0 11 k.settled 13) [])
-      ∷ step (show_call yard 1 0) (left (Ok (Shown k.upper k.settled)) shared (copies k.edited_0 11 k.settled 13) [])
-      ∷ step (judge_call yard 0 1 0) (left (Ok (Judged Stale)) shared (copies k.edited_0 11 k.settled 13) [])
-      ∷ step (settle_call yard 0 1 0 15) (left (Err (fault NoConflict (Some 1) (Some 0))) shared (copies k.edited_0 11 k.settled 13) [])
-      ∷ step (pull_call yard 1 0 (9 ∷ [])) (left (Ok (Pulled 1 0)) shared (copies k.settled 13 k.settled 13) (1 ∷ []))
-      ∷ step (retire_call yard 1 0) (left (Ok Done) alone (copies k.settled 13 k.settled 13) [])
-      ∷ step (edit_call yard 0 0 14) (left (Ok Done) alone (copies k.last 14 k.settled 13) [])
+      step (fork_call yard 0 0) (outcome (Err (fault SameBerth (Some 0) None)) alone (copies k.blank 10 k.blank 10) [])
+      ∷ step (fork_call yard 0 1) (outcome (Ok Done) shared (copies k.blank 10 k.blank 10) [])
+      ∷ step (edit_call yard 0 0 11) (outcome (Ok Done) shared (copies k.edited_0 11 k.blank 10) [])
+      ∷ step (judge_call yard 0 1 0) (outcome (Ok (Judged Ahead)) shared (copies k.edited_0 11 k.blank 10) [])
+      ∷ step (edit_call yard 1 0 12) (outcome (Ok Done) shared (copies k.edited_0 11 k.edited_1 12) [])
+      ∷ step (judge_call yard 0 1 0) (outcome (Ok (Judged Conflict)) shared (copies k.edited_0 11 k.edited_1 12) [])
+      ∷ step (report_call yard 0 1 (9 ∷ 9 ∷ [])) (outcome (Ok (Reported 0 0 0 1 0)) shared (copies k.edited_0 11 k.edited_1 12) (3 ∷ 9 ∷ []))
+      ∷ step (settle_call yard 0 1 0 13) (outcome (Ok Done) shared (copies k.edited_0 11 k.settled 13) [])
+      ∷ step (show_call yard 1 0) (outcome (Ok (Shown k.upper k.settled)) shared (copies k.edited_0 11 k.settled 13) [])
+      ∷ step (judge_call yard 0 1 0) (outcome (Ok (Judged Stale)) shared (copies k.edited_0 11 k.settled 13) [])
+      ∷ step (settle_call yard 0 1 0 15) (outcome (Err (fault NoConflict (Some 1) (Some 0))) shared (copies k.edited_0 11 k.settled 13) [])
+      ∷ step (pull_call yard 1 0 (9 ∷ [])) (outcome (Ok (Pulled 1 0)) shared (copies k.settled 13 k.settled 13) (1 ∷ []))
+      ∷ step (retire_call yard 1 0) (outcome (Ok Done) alone (copies k.settled 13 k.settled 13) [])
+      ∷ step (edit_call yard 0 0 14) (outcome (Ok Done) alone (copies k.last 14 k.settled 13) [])
       ∷ []
 
 module _ {Pen C : Type 0} (m : Meaning Pen C) (same_pen : Pen → Pen → Bool) (same_clock : C → C → Bool) where
@@ -128,7 +128,7 @@ module _ {Pen C : Type 0} (m : Meaning Pen C) (same_pen : Pen → Pen → Bool) 
   abbrev pub same_copy : Record C ℕ → Record C ℕ → Bool
   same_copy x y = same_clock x.clock y.clock && x.payload == y.payload
 
-  abbrev pub same_left : {A : Type 0} → (A → A → Bool) → Left Pen C ℕ A → Left Pen C ℕ A → Bool
+  abbrev pub same_left : {A : Type 0} → (A → A → Bool) → Outcome Pen C ℕ A → Outcome Pen C ℕ A → Bool
   same_left test x y = same_result test x.answer y.answer && (same_list same_berth x.berths y.berths && (same_list same_copy x.copies y.copies && same_list nat_eq x.bytes y.bytes))
 
   -- a step starts from the tables that the step before it must leave
@@ -140,7 +140,7 @@ module _ {Pen C : Type 0} (m : Meaning Pen C) (same_pen : Pen → Pen → Bool) 
   yard_holds k =
       same_left same_card
       (open_result m (shared k) (copies k.settled 8 k.last 9) (10 ∷ []))
-      (left (Ok yard) (alone k) (copies k.blank 10 k.blank 10) [])
+      (outcome (Ok yard) (alone k) (copies k.blank 10 k.blank 10) [])
       && steps_hold (day k) (alone k) (copies k.blank 10 k.blank 10)
 
 abbrev pub tree_course : Course Id Event

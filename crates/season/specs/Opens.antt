@@ -7,10 +7,10 @@
 use Rattle.std.specs.Prelude.{◌≡◌, ℕ, ◌*◌, ◌&&◌, Bool, List, [], length, Ok, codes, nat_le}
 use Rattle.clock.specs.Faults.{fault_text}
 use Rattle.clock.specs.Meaning.{Meaning}
-use Rattle.history.specs.declared.tables.Berth.{Berth}
-use Rattle.history.specs.declared.tables.Record.{Record}
-use Rattle.history.specs.Open.{open_result}
-use Rattle.season.specs.Held.{Held, left_in}
+use Rattle.yard_rules.specs.declared.tables.Berth.{Berth}
+use Rattle.yard_rules.specs.declared.tables.Record.{Record}
+use Rattle.yard_rules.specs.Open.{open_result}
+use Rattle.season.specs.Held.{Held, outcome_in}
 use Rattle.season.specs.declared.errors.OpenError.{OpenError}
 use Rattle.season.specs.declared.errors.OpenError.TheVariants.{Refused, OutOfMemory}
 
@@ -20,7 +20,7 @@ pub record Opened {Pen C P : Type 0} (m : Meaning Pen C) (berths : ℕ) (payload
   pub old_copies : List (Record C P)
   pub berth_count : length old_berths ≡ berths
   pub copy_count : length old_copies ≡ berths * length payloads
-  pub is : left_in (Ok h.card) h [] ≡ open_result m old_berths old_copies payloads
+  pub is : outcome_in (Ok h.card) h [] ≡ open_result m old_berths old_copies payloads
 
 abbrev pub within : ℕ → ℕ → Bool
 within berths files = nat_le 1 berths && (nat_le berths 16 && (nat_le 1 files && nat_le files 32))

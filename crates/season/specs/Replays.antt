@@ -10,19 +10,19 @@
 use Rattle.std.specs.Prelude.{ℕ, ◌<◌, Bool, List, slice_index}
 use Rattle.clock.specs.declared.verdicts.Verdict.{Verdict}
 use Rattle.clock.specs.Meaning.{Meaning}
-use Rattle.history.specs.declared.tables.Berth.{Berth}
-use Rattle.history.specs.declared.tables.Record.{Record}
-use Rattle.history.specs.History.{History, Compares, ComparesByte}
-use Rattle.history.specs.Page.{Asked}
-use Rattle.history.specs.Calls.{page_of}
-use Rattle.history.specs.Law.{yard, Reached, Lawful}
+use Rattle.yard_rules.specs.declared.tables.Berth.{Berth}
+use Rattle.yard_rules.specs.declared.tables.Record.{Record}
+use Rattle.yard_rules.specs.History.{History, Compares, ComparesByte}
+use Rattle.yard_rules.specs.Page.{Asked}
+use Rattle.yard_rules.specs.Calls.{page_of}
+use Rattle.yard_rules.specs.Law.{traced, Reached, Lawful}
 use Rattle.season.specs.Held.{Held, leaves_in}
 
 module _ {Pen C P : Type 0} (m : Meaning Pen C) (alike : P → P → Bool) where
   pub record Replayed (bs : List (Berth Pen)) (cs : List (Record C P)) : Type 0 where
     pub payloads : List P
     pub history : History P
-    pub reached : Reached m alike payloads (yard bs cs history)
+    pub reached : Reached m alike payloads (traced bs cs history)
 
   module _ (h : Held Pen C P) where
     pub record Behind (a b f : ℕ) (v : Verdict) : Type 0 where

@@ -1,11 +1,11 @@
 ghost use Rattle.std.specs.Prelude.{◌≡◌};
-ghost use Rattle.history.specs.Tables.{Made};
+ghost use Rattle.yard_rules.specs.Tables.{Made};
 
 use crate::seasons::Season;
 use clock::Clock;
-use history::history_law;
 use payload::Payload;
 use yard::Card;
+use yard_rules::history_law;
 
 impl<K: Card, C: Clock, P: Payload> Season<K, C, P> {
     // By the law of histories, whatever calls led here: pens and clocks are well made.

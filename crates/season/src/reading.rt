@@ -1,17 +1,17 @@
 ghost use Rattle.std.specs.Prelude.{◌≡◌, [], IfOk, OnOk};
-ghost use Rattle.history.specs.Judge.{judge_call};
-ghost use Rattle.history.specs.Report.{report_call};
-ghost use Rattle.history.specs.Show.{show_call};
-ghost use Rattle.history.specs.declared.calls.Call.TheVariants.{Reads};
-ghost use Rattle.history.specs.Page.{asked};
-ghost use Rattle.season.specs.Held.{left_in, leaves_in, said_in};
+ghost use Rattle.yard_rules.specs.Judge.{judge_call};
+ghost use Rattle.yard_rules.specs.Report.{report_call};
+ghost use Rattle.yard_rules.specs.Show.{show_call};
+ghost use Rattle.yard_rules.specs.declared.calls.Call.TheVariants.{Reads};
+ghost use Rattle.yard_rules.specs.Page.{asked};
+ghost use Rattle.season.specs.Held.{outcome_in, leaves_in, said_in};
 ghost use Rattle.season.specs.Replays.{Behind, EachBehind, LawfulIn};
 
 use crate::seasons::Season;
 use clock::{Clock, Fault, Verdict};
-use history::{Answer, Reading, Sizes};
 use payload::Payload;
 use yard::{Card, judge, read, report, show};
+use yard_rules::{Answer, Reading, Sizes};
 
 impl<K: Card, C: Clock, P: Payload> Season<K, C, P> {
     /// How many berths and files the yard has.
@@ -25,7 +25,7 @@ impl<K: Card, C: Clock, P: Payload> Season<K, C, P> {
     /// file where the call fills it.
     pub fn read(&self, bytes: &mut [u8], call: Reading) -> Result<Answer<C::Pen, C>, Fault>
         ensures result { let q = asked self.now.card (Reads call) bytes.old in
-            left_in result self.now bytes.new ≡ said_in C.meaning P.same self.now q }
+            outcome_in result self.now bytes.new ≡ said_in C.meaning P.same self.now q }
         ensures edits { let q = asked self.now.card (Reads call) bytes.old in
             ∥ LawfulIn C.meaning P.same self.now q ∥₁ }
     {
@@ -35,7 +35,7 @@ impl<K: Card, C: Clock, P: Payload> Season<K, C, P> {
 
     /// The verdict on berth a's copy of file f against b's.
     pub fn judge(&self, a: usize, b: usize, f: usize) -> Result<Verdict, Fault>
-        ensures result { left_in result self.now []
+        ensures result { outcome_in result self.now []
             ≡ leaves_in C.meaning P.same self.now (judge_call self.now.card a b f) }
         ensures edits { IfOk result (λ v. ∥ Behind C.meaning P.same self.now a b f v ∥₁) }
     {
@@ -51,7 +51,7 @@ impl<K: Card, C: Clock, P: Payload> Season<K, C, P> {
         a: usize,
         b: usize,
     ) -> Result<(usize, usize, usize, usize, usize), Fault>
-        ensures result { left_in result self.now bytes.new
+        ensures result { outcome_in result self.now bytes.new
             ≡ leaves_in C.meaning P.same self.now (report_call self.now.card a b bytes.old) }
         ensures edits { OnOk result ∥ EachBehind C.meaning P.same self.now a b bytes.new ∥₁ }
     {
@@ -61,7 +61,7 @@ impl<K: Card, C: Clock, P: Payload> Season<K, C, P> {
 
     /// The pen of berth a and the clock of its copy of file f.
     pub fn show(&self, a: usize, f: usize) -> Result<(C::Pen, C), Fault>
-        ensures result { left_in result self.now []
+        ensures result { outcome_in result self.now []
             ≡ leaves_in C.meaning P.same self.now (show_call self.now.card a f) }
     {
         self.law();

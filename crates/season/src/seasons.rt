@@ -1,8 +1,8 @@
 use clock::Clock;
-use history::{Berth, Record};
 use payload::Payload;
 use std::marker::Model;
 use yard::Card;
+use yard_rules::{Berth, Record};
 
 /// A yard with its tables and its card, open or sealed. Some list of calls leads
 /// to these tables, from what an accepted open left.

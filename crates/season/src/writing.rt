@@ -1,27 +1,27 @@
 ghost use Rattle.std.specs.Prelude.{◌≡◌, [], OnOk};
-ghost use Rattle.history.specs.Fork.{fork_call};
-ghost use Rattle.history.specs.Edit.{edit_call};
-ghost use Rattle.history.specs.Pull.{pull_call};
-ghost use Rattle.history.specs.Settle.{settle_call};
-ghost use Rattle.history.specs.Retire.{retire_call};
-ghost use Rattle.history.specs.Drop.{drop_call};
-ghost use Rattle.history.specs.declared.calls.Call.TheVariants.{Writes};
-ghost use Rattle.history.specs.Page.{asked};
-ghost use Rattle.season.specs.Held.{left_in, leaves_in, said_in};
+ghost use Rattle.yard_rules.specs.Fork.{fork_call};
+ghost use Rattle.yard_rules.specs.Edit.{edit_call};
+ghost use Rattle.yard_rules.specs.Pull.{pull_call};
+ghost use Rattle.yard_rules.specs.Settle.{settle_call};
+ghost use Rattle.yard_rules.specs.Retire.{retire_call};
+ghost use Rattle.yard_rules.specs.Drop.{drop_call};
+ghost use Rattle.yard_rules.specs.declared.calls.Call.TheVariants.{Writes};
+ghost use Rattle.yard_rules.specs.Page.{asked};
+ghost use Rattle.season.specs.Held.{outcome_in, leaves_in, said_in};
 ghost use Rattle.season.specs.Replays.{EachBehind, LawfulIn};
 
 use crate::seasons::Season;
 use clock::{Clock, Fault};
-use history::{Answer, Writing};
 use payload::Payload;
 use yard::{OpenCard, SealedCard, drop, edit, fork, pull, retire, seal, settle, write};
+use yard_rules::{Answer, Writing};
 
 impl<C: Clock, P: Payload> Season<OpenCard, C, P> {
     /// Carries out any call that writes. The buffer has room for a byte of each
     /// file where the call fills it.
     pub fn write(&mut self, bytes: &mut [u8], call: Writing<P>) -> Result<Answer<C::Pen, C>, Fault>
         ensures result { let q = asked self.old.card (Writes call) bytes.old in
-            left_in result self.new bytes.new ≡ said_in C.meaning P.same self.old q }
+            outcome_in result self.new bytes.new ≡ said_in C.meaning P.same self.old q }
         ensures edits { let q = asked self.old.card (Writes call) bytes.old in
             ∥ LawfulIn C.meaning P.same self.old q ∥₁ }
         ensures card { self.new.card ≡ self.old.card }
@@ -32,7 +32,7 @@ impl<C: Clock, P: Payload> Season<OpenCard, C, P> {
 
     /// Working berth a gives empty berth b half of its pen, and its copies.
     pub fn fork(&mut self, a: usize, b: usize) -> Result<(), Fault>
-        ensures result { left_in result self.new []
+        ensures result { outcome_in result self.new []
             ≡ leaves_in C.meaning P.same self.old (fork_call self.old.card a b) }
         ensures card { self.new.card ≡ self.old.card }
     {
@@ -42,7 +42,7 @@ impl<C: Clock, P: Payload> Season<OpenCard, C, P> {
 
     /// Working berth a writes the payload into its copy of file f.
     pub fn edit(&mut self, a: usize, f: usize, payload: P) -> Result<(), Fault>
-        ensures result { left_in result self.new []
+        ensures result { outcome_in result self.new []
             ≡ leaves_in C.meaning P.same self.old (edit_call self.old.card a f payload) }
         ensures card { self.new.card ≡ self.old.card }
     {
@@ -54,7 +54,7 @@ impl<C: Clock, P: Payload> Season<OpenCard, C, P> {
     /// the verdict on b's copies against a's beforehand. Answers how many were
     /// taken, and how many files are in conflict.
     pub fn pull(&mut self, bytes: &mut [u8], a: usize, b: usize) -> Result<(usize, usize), Fault>
-        ensures result { left_in result self.new bytes.new
+        ensures result { outcome_in result self.new bytes.new
             ≡ leaves_in C.meaning P.same self.old (pull_call self.old.card a b bytes.old) }
         ensures edits { OnOk result ∥ EachBehind C.meaning P.same self.old b a bytes.new ∥₁ }
         ensures card { self.new.card ≡ self.old.card }
@@ -65,7 +65,7 @@ impl<C: Clock, P: Payload> Season<OpenCard, C, P> {
 
     /// Working berth b ends the conflict of its copy of file f with a's.
     pub fn settle(&mut self, a: usize, b: usize, f: usize, payload: P) -> Result<(), Fault>
-        ensures result { left_in result self.new []
+        ensures result { outcome_in result self.new []
             ≡ leaves_in C.meaning P.same self.old (settle_call self.old.card a b f payload) }
         ensures card { self.new.card ≡ self.old.card }
     {
@@ -75,7 +75,7 @@ impl<C: Clock, P: Payload> Season<OpenCard, C, P> {
 
     /// Working berth a hands its pen and its copies to working berth b.
     pub fn retire(&mut self, a: usize, b: usize) -> Result<(), Fault>
-        ensures result { left_in result self.new []
+        ensures result { outcome_in result self.new []
             ≡ leaves_in C.meaning P.same self.old (retire_call self.old.card a b) }
         ensures card { self.new.card ≡ self.old.card }
     {
@@ -85,7 +85,7 @@ impl<C: Clock, P: Payload> Season<OpenCard, C, P> {
 
     /// Berth a becomes empty.
     pub fn drop(&mut self, a: usize) -> Result<(), Fault>
-        ensures result { left_in result self.new []
+        ensures result { outcome_in result self.new []
             ≡ leaves_in C.meaning P.same self.old (drop_call self.old.card a) }
         ensures card { self.new.card ≡ self.old.card }
     {

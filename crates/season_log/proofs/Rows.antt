@@ -3,9 +3,9 @@ use Rattle.std.proofs.Common.{◌≡◌, ℕ, true, false, cond, ◌||◌, List,
 use Rattle.std.specs.List.{list_any}
 use Rattle.std.specs.Str.{bytes_eq}
 use Rattle.std.proofs.lemmas.Slice.Eq.{bytes_eq-Decides}
-use Rattle.history.specs.declared.calls.Call.TheVariants.{Reads, Writes, Seal}
-use Rattle.history.specs.declared.calls.Reading.TheVariants.{Judge, Report, Show}
-use Rattle.history.specs.declared.calls.Writing.TheVariants.{Fork, Edit, Pull, Settle, Retire, Drop}
+use Rattle.yard_rules.specs.declared.calls.Call.TheVariants.{Reads, Writes, Seal}
+use Rattle.yard_rules.specs.declared.calls.Reading.TheVariants.{Judge, Report, Show}
+use Rattle.yard_rules.specs.declared.calls.Writing.TheVariants.{Fork, Edit, Pull, Settle, Retire, Drop}
 use Rattle.season_log.specs.declared.forms.Form.{Form}
 use Rattle.season_log.specs.Rows.{row, Shape, IsCall}
 use Rattle.season_log.specs.Forms.{FormOf, AreForms}

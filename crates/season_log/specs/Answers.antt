@@ -10,9 +10,9 @@ use Rattle.std.specs.Prelude.{ℕ, List, ◌++◌, take, codes, Option, Some}
 use Rattle.std.specs.Fmt.{decimal, ◌++?◌}
 use Rattle.std.specs.List.{flat_map}
 use Rattle.clock.specs.Verdicts.{verdict_word}
-use Rattle.history.specs.declared.tables.Sizes.{Sizes}
-use Rattle.history.specs.declared.answers.Answer.{Answer}
-use Rattle.history.specs.declared.answers.Answer.TheVariants.{Done, Judged, Reported, Pulled, Shown}
+use Rattle.yard_rules.specs.declared.tables.Sizes.{Sizes}
+use Rattle.yard_rules.specs.declared.answers.Answer.{Answer}
+use Rattle.yard_rules.specs.declared.answers.Answer.TheVariants.{Done, Judged, Reported, Pulled, Shown}
 use Rattle.season_log.specs.declared.answers.Reply.{Reply}
 use Rattle.season_log.specs.declared.answers.Reply.TheVariants.{Opened, Answered}
 

@@ -15,7 +15,7 @@
 --
 -- g is the kind's `from_str_gives`, c the `from_gives` of its errors.
 use Rattle.std.specs.Prelude.{◌≡◌, ◌≢◌, ℕ, List, [], ◌∷◌, take, drop, length, slice_get, Some, None, Option, Ok, Result}
-use Rattle.history.specs.declared.calls.Call.{Call}
+use Rattle.yard_rules.specs.declared.calls.Call.{Call}
 use Rattle.season_log.specs.declared.mistakes.Mistake.{Mistake}
 use Rattle.season_log.specs.declared.mistakes.Mistake.TheVariants.{UnknownCall, WordCount, NotNumber, NotPayload}
 use Rattle.season_log.specs.declared.mistakes.PayloadError.{PayloadError}

@@ -10,10 +10,10 @@
 -- IsNoCall name  none has it
 use Prim.Native.String.{String}
 use Rattle.std.specs.Prelude.{◌≡◌, ◌≢◌, ◌+◌, codes, ℕ, List, [], ◌∷◌, length, Some, None, Option}
-use Rattle.history.specs.declared.calls.Call.{Call}
-use Rattle.history.specs.declared.calls.Call.TheVariants.{Reads, Writes, Seal}
-use Rattle.history.specs.declared.calls.Reading.TheVariants.{Judge, Report, Show}
-use Rattle.history.specs.declared.calls.Writing.TheVariants.{Fork, Edit, Pull, Settle, Retire, Drop}
+use Rattle.yard_rules.specs.declared.calls.Call.{Call}
+use Rattle.yard_rules.specs.declared.calls.Call.TheVariants.{Reads, Writes, Seal}
+use Rattle.yard_rules.specs.declared.calls.Reading.TheVariants.{Judge, Report, Show}
+use Rattle.yard_rules.specs.declared.calls.Writing.TheVariants.{Fork, Edit, Pull, Settle, Retire, Drop}
 
 pub record Row (P : Type 0) : Type 0 where
   pub name : List ℕ

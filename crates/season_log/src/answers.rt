@@ -2,8 +2,8 @@ ghost use Rattle.std.specs.Prelude.{take};
 ghost use Rattle.std.specs.Fmt.{WritesOnOk};
 ghost use Rattle.season_log.specs.Answers.{reply_text, bytes_text};
 
-use history::{Answer, Sizes};
 use std::fmt;
+use yard_rules::{Answer, Sizes};
 
 /// A byte for each file that a yard can have.
 pub type Buffer = [u8; 32];

@@ -7,8 +7,8 @@ ghost use Rattle.season_log.specs.Words.{Numbers, number_mistake, PayloadMistake
 use crate::forms::form_of;
 use crate::mistakes::{Mistake, PayloadError};
 use crate::numbers::number;
-use history::{Call, Reading, Writing};
 use std::str::FromStr;
+use yard_rules::{Call, Reading, Writing};
 
 /// The call of this name that the words after it ask for.
 pub fn read_call<'a, P: FromStr>(

@@ -2,7 +2,7 @@ use crate::generator::Generator;
 use crate::plans::{EVENLY, Plan, Weights};
 use crate::samples::Sample;
 use edit_model::{Kind, Model, Needs};
-use history::{Call, Reading, Writing};
+use yard_rules::{Call, Reading, Writing};
 
 /// The card that a call is given: the yard's, or one of other sizes.
 #[derive(Clone, Copy)]

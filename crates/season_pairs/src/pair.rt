@@ -6,7 +6,7 @@ use crate::tally::Tally;
 use anyhow::{Context, Result, ensure};
 use clock::Clock;
 use edit_model::{Answer, Kind, Model, Needs};
-use history::{Call, Reading};
+use yard_rules::{Call, Reading};
 use std::alloc::Global;
 use std::fmt::Display;
 use yard::{Card, OpenCard};
@@ -34,7 +34,7 @@ where
             Call::Reads(reading) => self.tables.read(card, reading, &mut bytes),
             Call::Writes(writing) => self.tables.write(card, writing, &mut bytes),
             // no season draws it: at its end it seals its cards
-            Call::Seal => Ok(history::Answer::Done),
+            Call::Seal => Ok(yard_rules::Answer::Done),
         };
         self.expect(
             &order.call,

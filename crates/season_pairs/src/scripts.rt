@@ -1,5 +1,5 @@
 use crate::samples::Sample;
-use history::{Call, Writing};
+use yard_rules::{Call, Writing};
 
 /// The calls that a season begins with.
 #[derive(Clone, Copy)]

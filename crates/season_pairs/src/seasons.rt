@@ -10,7 +10,7 @@ use crate::tally::Tally;
 use anyhow::{Context, Result};
 use clock::Clock;
 use edit_model::{Kind, Model};
-use history::Call;
+use yard_rules::Call;
 use std::alloc::Global;
 use std::fmt::Display;
 use yard::OpenCard;

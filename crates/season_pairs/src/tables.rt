@@ -3,7 +3,7 @@ ghost use Rattle.yard.specs.Entries.{Pens, Clocks};
 use crate::samples::Sample;
 use anyhow::Result;
 use clock::{Clock, Fault};
-use history::{Answer, Berth, Reading, Record, State, Writing};
+use yard_rules::{Answer, Berth, Reading, Record, State, Writing};
 use std::alloc::Global;
 use std::fmt::Display;
 use yard::{Card, OpenCard, blank_berth, blank_copy, open};

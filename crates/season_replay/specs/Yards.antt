@@ -13,13 +13,13 @@
 use Rattle.std.specs.Prelude.{◌≡◌, ℕ, Bool, true, false, not, ◌||◌, List, [], Result, replicate}
 use Rattle.clock.specs.declared.faults.Fault.{Fault}
 use Rattle.clock.specs.Meaning.{Meaning}
-use Rattle.history.specs.declared.answers.Answer.{Answer}
-use Rattle.history.specs.declared.calls.Call.{Call}
-use Rattle.history.specs.declared.calls.Call.TheVariants.{Reads, Writes, Seal}
-use Rattle.history.specs.Checks.{Left, left}
-use Rattle.history.specs.Page.{asked}
-use Rattle.history.specs.Calls.{in_form}
-use Rattle.season.specs.Held.{Held, left_in, said_in}
+use Rattle.yard_rules.specs.declared.answers.Answer.{Answer}
+use Rattle.yard_rules.specs.declared.calls.Call.{Call}
+use Rattle.yard_rules.specs.declared.calls.Call.TheVariants.{Reads, Writes, Seal}
+use Rattle.yard_rules.specs.Checks.{Outcome, outcome}
+use Rattle.yard_rules.specs.Page.{asked}
+use Rattle.yard_rules.specs.Calls.{in_form}
+use Rattle.season.specs.Held.{Held, outcome_in, said_in}
 use Rattle.season_log.specs.declared.answers.Reply.{Reply}
 use Rattle.season_log.specs.declared.answers.Reply.TheVariants.{Answered}
 use Rattle.season_replay.specs.declared.yards.Yard.{Yard}
@@ -51,14 +51,14 @@ module _ {Pen C P : Type 0} where
   abbrev pub takes : Yard C P Pen → Call P → Bool
   takes y c = not (is_sealed y) || reads c
 
-  abbrev pub reply_of : ℕ → Left Pen C P (Answer Pen C) → Left Pen C P (Reply Pen C)
-  reply_of files l = left (in_form (λ a. Answered a l.bytes files) l.answer) l.berths l.copies []
+  abbrev pub reply_of : ℕ → Outcome Pen C P (Answer Pen C) → Outcome Pen C P (Reply Pen C)
+  reply_of files l = outcome (in_form (λ a. Answered a l.bytes files) l.answer) l.berths l.copies []
 
   module _ (m : Meaning Pen C) (alike : P → P → Bool) where
-    abbrev pub replied : Held Pen C P → Call P → Left Pen C P (Reply Pen C)
+    abbrev pub replied : Held Pen C P → Call P → Outcome Pen C P (Reply Pen C)
     replied h c = reply_of h.card.files (said_in m alike h (asked h.card c zeros))
 
     pub record Carried (y : Yard C P Pen) (c : Call P) (z : Yard C P Pen) (r : Result (Reply Pen C) Fault) : Type 0 where
       pub sealed : is_sealed z ≡ (is_sealed y || seals c)
       pub card : (season_of z).card ≡ (season_of y).card
-      pub tables : left_in r (season_of z) [] ≡ replied (season_of y) c
+      pub tables : outcome_in r (season_of z) [] ≡ replied (season_of y) c

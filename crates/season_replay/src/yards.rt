@@ -1,18 +1,18 @@
 ghost use Rattle.std.specs.Prelude.{◌≡◌, [], true, false, IsOkAnd, IsErrOf};
 ghost use Rattle.season_log.specs.declared.mistakes.Mistake.TheVariants.{Sealed as SealedMistake};
 ghost use Rattle.season_replay.specs.declared.yards.Yard.TheVariants.{Open};
-ghost use Rattle.history.specs.declared.calls.Call.TheVariants.{Reads, Writes, Seal};
-ghost use Rattle.history.specs.Calls.{in_form};
-ghost use Rattle.season.specs.Held.{left_in};
+ghost use Rattle.yard_rules.specs.declared.calls.Call.TheVariants.{Reads, Writes, Seal};
+ghost use Rattle.yard_rules.specs.Calls.{in_form};
+ghost use Rattle.season.specs.Held.{outcome_in};
 ghost use Rattle.season_log.specs.declared.answers.Reply.TheVariants.{Answered};
 ghost use Rattle.season_replay.specs.Yards.{takes, replied, Carried};
 
 use clock::{Clock, Fault};
-use history::{Answer, Call, Reading, Writing};
 use payload::Payload;
 use season::Season;
 use season_log::{Buffer, Mistake, Reply};
 use yard::{Card, OpenCard, SealedCard};
+use yard_rules::{Answer, Call, Reading, Writing};
 
 /// A season of one clock kind and one payload kind, open or sealed.
 #[derive(Drop)]
@@ -70,7 +70,7 @@ fn in_open<C: Clock, P: Payload>(
 }
 
 fn read<K: Card, C: Clock, P: Payload>(season: &Season<K, C, P>, call: Reading) -> Answered<C>
-    ensures { left_in result season.now [] ≡ replied C.meaning P.same season.now (Reads call) }
+    ensures { outcome_in result season.now [] ≡ replied C.meaning P.same season.now (Reads call) }
 {
     let mut bytes = [0; 32];
     let answer = season.read(&mut bytes, call);
@@ -78,7 +78,7 @@ fn read<K: Card, C: Clock, P: Payload>(season: &Season<K, C, P>, call: Reading) 
 }
 
 fn write<C: Clock, P: Payload>(season: &mut Season<OpenCard, C, P>, call: Writing<P>) -> Answered<C>
-    ensures result { left_in result season.new [] ≡ replied C.meaning P.same season.old (Writes call) }
+    ensures result { outcome_in result season.new [] ≡ replied C.meaning P.same season.old (Writes call) }
     ensures card { season.new.card ≡ season.old.card }
 {
     let mut bytes = [0; 32];

@@ -1,20 +1,20 @@
 -- From what a call's own function answers and leaves to the same in the one type of answers.
 use Rattle.std.proofs.Common.{◌≡◌, ℕ, List, [], Some, None, Option, Result, refl, ap, ◌∙◌}
 use Rattle.clock.specs.declared.faults.Fault.{Fault}
-use Rattle.history.specs.declared.tables.Berth.{Berth}
-use Rattle.history.specs.declared.tables.Record.{Record}
-use Rattle.history.specs.Checks.{Left, left, unless}
-use Rattle.history.specs.Calls.{in_form, in_words}
+use Rattle.yard_rules.specs.declared.tables.Berth.{Berth}
+use Rattle.yard_rules.specs.declared.tables.Record.{Record}
+use Rattle.yard_rules.specs.Checks.{Outcome, outcome, unless}
+use Rattle.yard_rules.specs.Calls.{in_form, in_words}
 
 module _ {Pen C P A B : Type 0} (told : A → B) (bs bs' : List (Berth Pen)) (cs cs' : List (Record C P)) (bytes : List ℕ) (r : Result A Fault) (o : Option Fault) where
-  lent : List ℕ → Left Pen C P A → Left Pen C P A
-  lent bytes l = left l.answer l.berths l.copies bytes
+  lent : List ℕ → Outcome Pen C P A → Outcome Pen C P A
+  lent bytes l = outcome l.answer l.berths l.copies bytes
 
   -- a call that asks no buffer leaves that which it is lent
-  pub told_lent : (ds : List (Berth Pen)) (es : List (Record C P)) (d : Result A Fault) → left r bs' cs' [] ≡ unless bs cs [] o (left d ds es []) → left (in_form told r) bs' cs' bytes ≡ in_words told (unless bs cs bytes o (left d ds es bytes))
+  pub told_lent : (ds : List (Berth Pen)) (es : List (Record C P)) (d : Result A Fault) → outcome r bs' cs' [] ≡ unless bs cs [] o (outcome d ds es []) → outcome (in_form told r) bs' cs' bytes ≡ in_words told (unless bs cs bytes o (outcome d ds es bytes))
   unfolding lent
-  told_lent ds es d e = ap (λ (l : Left Pen C P A). in_words told (lent bytes l)) e ∙ go o
+  told_lent ds es d e = ap (λ (l : Outcome Pen C P A). in_words told (lent bytes l)) e ∙ go o
     where
-      go : (o : Option Fault) → in_words told (lent bytes (unless bs cs [] o (left d ds es []))) ≡ in_words told (unless bs cs bytes o (left d ds es bytes))
+      go : (o : Option Fault) → in_words told (lent bytes (unless bs cs [] o (outcome d ds es []))) ≡ in_words told (unless bs cs bytes o (outcome d ds es bytes))
       go (Some x) = refl
       go None = refl

@@ -1,13 +1,13 @@
 -- What the code may rely on once a call's checks have passed.
 use Rattle.std.proofs.Common.{◌≡◌, ℕ, ◌<◌, ◌≤◌, List, length, None, Ok, refl}
-use Rattle.history.specs.declared.tables.Berth.{Berth}
-use Rattle.history.specs.declared.tables.Record.{Record}
-use Rattle.history.specs.Tables.{Card}
-use Rattle.history.specs.Checks.{wrong_sizes, no_berth}
-use Rattle.history.specs.Settle.{settle_plain}
-use Rattle.history.specs.Fork.{fork_plain}
-use Rattle.history.specs.Pull.{pull_checks}
-use Rattle.history.proofs.Due.{each_undue, fit, berth_below, file_below, differ, roomy}
+use Rattle.yard_rules.specs.declared.tables.Berth.{Berth}
+use Rattle.yard_rules.specs.declared.tables.Record.{Record}
+use Rattle.yard_rules.specs.Tables.{Card}
+use Rattle.yard_rules.specs.Checks.{wrong_sizes, no_berth}
+use Rattle.yard_rules.specs.Settle.{settle_plain}
+use Rattle.yard_rules.specs.Fork.{fork_plain}
+use Rattle.yard_rules.specs.Pull.{pull_checks}
+use Rattle.yard_rules.proofs.Due.{each_undue, fit, berth_below, file_below, differ, roomy}
 use Rattle.yard.specs.Passing.{all_pass}
 use Rattle.yard.specs.Ready.{Ready}
 use Rattle.yard.proofs.Outcomes.{passed_first}

@@ -6,12 +6,12 @@ use Rattle.std.proofs.lemmas.Bool.{cases_lt}
 use Rattle.clock.specs.declared.faults.Fault.{Fault}
 use Rattle.clock.specs.Answers.{answered}
 use Rattle.clock.specs.Meaning.{Meaning}
-use Rattle.history.specs.declared.tables.Berth.{Berth}
-use Rattle.history.specs.declared.tables.Record.{Record}
-use Rattle.history.specs.Tables.{Card, or_else, pen_in, pen_at, working_berth, row, copy_from}
-use Rattle.history.specs.Checks.{left}
-use Rattle.history.specs.Fork.{fork_plain, forked, fork_result}
-use Rattle.history.proofs.Lookups.{entry, over}
+use Rattle.yard_rules.specs.declared.tables.Berth.{Berth}
+use Rattle.yard_rules.specs.declared.tables.Record.{Record}
+use Rattle.yard_rules.specs.Tables.{Card, or_else, pen_in, pen_at, working_berth, row, copy_from}
+use Rattle.yard_rules.specs.Checks.{outcome}
+use Rattle.yard_rules.specs.Fork.{fork_plain, forked, fork_result}
+use Rattle.yard_rules.proofs.Lookups.{entry, over}
 use Rattle.yard.specs.Passing.{all_pass, at_place}
 use Rattle.yard.proofs.Outcomes.{then_one, due_when, none-due_when, refused, accepted}
 use Rattle.yard.proofs.Upto.{row_from}
@@ -42,10 +42,10 @@ module _ {Pen C P : Type 0} (m : Meaning Pen C) (card : Card) (bs : List (Berth 
     answers : at_place (Some a) None o ≡ at_place (Some a) None (answered (m.fork_due (pen_at m bs a)) (m.halves (pen_at m bs a)))
     answers = ap (at_place (Some a) None) eo ∙ sym (λ k. at_place (Some a) None (answered (m.fork_due (pen_in m (ex k))) (m.halves (pen_in m (ex k)))))
 
-    pub fork_denied : (e : Fault) (q : Result (Unit {0}) Fault) → Err e ≡ at_place (Some a) None o → q ≡ Err e → left q bs cs [] ≡ fork_result m card bs cs a b
+    pub fork_denied : (e : Fault) (q : Result (Unit {0}) Fault) → Err e ≡ at_place (Some a) None o → q ≡ Err e → outcome q bs cs [] ≡ fork_result m card bs cs a b
     fork_denied e q d z = refused bs cs [] (forked m card bs cs a b []) _ e q (then_one (fork_plain card bs cs a b) _ passes ∙ due_when (Some a) None _ (m.halves (pen_at m bs a)) e (d ∙ answers)) z
 
-    pub fork_done : (h : Pen × Pen) (cs' : List (Record C P)) → Ok h ≡ at_place (Some a) None o → cs' ≡ row card.files cs b (copy_from card.files cs a) → left (Ok tt) (set (set bs a (working_berth h.0)) b (working_berth h.1)) cs' [] ≡ fork_result m card bs cs a b
+    pub fork_done : (h : Pen × Pen) (cs' : List (Record C P)) → Ok h ≡ at_place (Some a) None o → cs' ≡ row card.files cs b (copy_from card.files cs a) → outcome (Ok tt) (set (set bs a (working_berth h.0)) b (working_berth h.1)) cs' [] ≡ fork_result m card bs cs a b
     fork_done h cs' d ec =
         let k = none-due_when (Some a) None _ (m.halves (pen_at m bs a)) h (d ∙ answers) in
-        (λ t. left (Ok tt) (set (set bs a (working_berth (k.1 t).0)) b (working_berth (k.1 t).1)) (ec t) []) ∙ accepted bs cs [] (forked m card bs cs a b []) _ (then_one (fork_plain card bs cs a b) _ passes ∙ k.0)
+        (λ t. outcome (Ok tt) (set (set bs a (working_berth (k.1 t).0)) b (working_berth (k.1 t).1)) (ec t) []) ∙ accepted bs cs [] (forked m card bs cs a b []) _ (then_one (fork_plain card bs cs a b) _ passes ∙ k.0)

@@ -3,15 +3,15 @@ use Rattle.std.proofs.Common.{◌≡◌, ℕ, ◌+◌, ◌%◌, ◌<◌, cond, e
 use Rattle.std.specs.List.{slice_get}
 use Rattle.clock.specs.Meaning.{Meaning}
 use Rattle.clock.specs.Sound.{Sound}
-use Rattle.history.specs.declared.tables.Berth.{Berth}
-use Rattle.history.specs.declared.tables.Record.{Record}
-use Rattle.history.specs.Tables.{Card, sizes, Made, or_else, working_berth, empty_berth}
-use Rattle.history.specs.Checks.{Left, left, wrong_sizes}
-use Rattle.history.specs.Open.{card_of, opened_berths, opened_copies, open_result}
-use Rattle.history.specs.Law.{LawfulOpen}
-use Rattle.history.proofs.Law.{lawful_open}
-use Rattle.history.proofs.Lookups.{entry}
-use Rattle.history.proofs.WellMade.{opened_made}
+use Rattle.yard_rules.specs.declared.tables.Berth.{Berth}
+use Rattle.yard_rules.specs.declared.tables.Record.{Record}
+use Rattle.yard_rules.specs.Tables.{Card, sizes, Made, or_else, working_berth, empty_berth}
+use Rattle.yard_rules.specs.Checks.{Outcome, outcome, wrong_sizes}
+use Rattle.yard_rules.specs.Open.{card_of, opened_berths, opened_copies, open_result}
+use Rattle.yard_rules.specs.Law.{LawfulOpen}
+use Rattle.yard_rules.proofs.Law.{lawful_open}
+use Rattle.yard_rules.proofs.Lookups.{entry}
+use Rattle.yard_rules.proofs.WellMade.{opened_made}
 use Rattle.yard.specs.Passing.{passing}
 use Rattle.yard.proofs.Outcomes.{passing_ok, accepted}
 use Rattle.yard.proofs.Upto.{upto, upto_set}
@@ -30,15 +30,15 @@ pub payload_is : {Pen C P : Type 0} (m : Meaning Pen C) (payloads : List P) (i f
 payload_is m payloads i f c p ef ep ec r = λ k. record { clock = ec k; payload = or_else (sym (subst (λ n. slice_get payloads n ≡ Some p) ef ep) k) r.payload }
 
 module _ {Pen C P : Type 0} (m : Meaning Pen C) (bs : List (Berth Pen)) (cs : List (Record C P)) (payloads : List P) where
-  done : Left Pen C P Card
-  done = left (Ok (card_of bs payloads)) (opened_berths m bs) (opened_copies m payloads cs) []
+  done : Outcome Pen C P Card
+  done = outcome (Ok (card_of bs payloads)) (opened_berths m bs) (opened_copies m payloads cs) []
 
-  pub open_done : (bs' : List (Berth Pen)) (cs' : List (Record C P)) (b f : ℕ) → Ok tt ≡ passing (wrong_sizes (card_of bs payloads) bs cs) → bs' ≡ opened_berths m bs → cs' ≡ opened_copies m payloads cs → b ≡ length bs → f ≡ length payloads → left (Ok (sizes b f)) bs' cs' [] ≡ open_result m bs cs payloads
+  pub open_done : (bs' : List (Berth Pen)) (cs' : List (Record C P)) (b f : ℕ) → Ok tt ≡ passing (wrong_sizes (card_of bs payloads) bs cs) → bs' ≡ opened_berths m bs → cs' ≡ opened_copies m payloads cs → b ≡ length bs → f ≡ length payloads → outcome (Ok (sizes b f)) bs' cs' [] ≡ open_result m bs cs payloads
   unfolding done
-  open_done bs' cs' b f d eb ec en ef = (λ k. left (Ok (sizes (en k) (ef k))) (eb k) (ec k) []) ∙ accepted bs cs [] done _ (passing_ok _ d)
+  open_done bs' cs' b f d eb ec en ef = (λ k. outcome (Ok (sizes (en k) (ef k))) (eb k) (ec k) []) ∙ accepted bs cs [] done _ (passing_ok _ d)
 
   pub open_made : (sound : Sound m) (bs' : List (Berth Pen)) (cs' : List (Record C P)) → bs' ≡ opened_berths m bs → cs' ≡ opened_copies m payloads cs → Made m bs' cs'
   open_made sound bs' cs' eb ec = subst (λ (l : List (Berth Pen)). Made m l cs') (sym eb) (subst (λ (l : List (Record C P)). Made m (opened_berths m bs) l) (sym ec) (opened_made m sound payloads bs cs))
 
-  pub open_lawful : (sound : Sound m) (l : Left Pen C P Card) → l ≡ open_result m bs cs payloads → LawfulOpen m payloads l
-  open_lawful sound l e = subst (λ (k : Left Pen C P Card). LawfulOpen m payloads k) (sym e) (lawful_open m sound bs cs payloads)
+  pub open_lawful : (sound : Sound m) (l : Outcome Pen C P Card) → l ≡ open_result m bs cs payloads → LawfulOpen m payloads l
+  open_lawful sound l e = subst (λ (k : Outcome Pen C P Card). LawfulOpen m payloads k) (sym e) (lawful_open m sound bs cs payloads)

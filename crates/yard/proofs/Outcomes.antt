@@ -3,9 +3,9 @@ use Rattle.std.proofs.Common.{◌≡◌, ℕ, List, [], ◌∷◌, ◌++◌, Som
 use Rattle.clock.specs.declared.causes.Cause.{Cause}
 use Rattle.clock.specs.declared.faults.Fault.{Fault}
 use Rattle.clock.specs.Answers.{first, answered}
-use Rattle.history.specs.declared.tables.Berth.{Berth}
-use Rattle.history.specs.declared.tables.Record.{Record}
-use Rattle.history.specs.Checks.{fault, Left, left, unless, placed}
+use Rattle.yard_rules.specs.declared.tables.Berth.{Berth}
+use Rattle.yard_rules.specs.declared.tables.Record.{Record}
+use Rattle.yard_rules.specs.Checks.{fault, Outcome, outcome, unless, placed}
 use Rattle.yard.specs.Passing.{passing, all_pass, at_place}
 
 pub refused_first : (l : List (Option Fault)) (e : Fault) → Err e ≡ all_pass l → first l ≡ Some e
@@ -45,10 +45,10 @@ first_one None = refl
 pub then_one : (l : List (Option Fault)) (o : Option Fault) → Ok tt ≡ all_pass l → first (l ++ (o ∷ [])) ≡ o
 then_one l o q = append_none l (o ∷ []) (passed_first l q) ∙ first_one o
 
-module _ {Pen C P A : Type 0} (bs : List (Berth Pen)) (cs : List (Record C P)) (bytes : List ℕ) (done : Left Pen C P A) where
+module _ {Pen C P A : Type 0} (bs : List (Berth Pen)) (cs : List (Record C P)) (bytes : List ℕ) (done : Outcome Pen C P A) where
   -- a refusal that is due, and none
-  pub refused : (o : Option Fault) (e : Fault) (q : Result A Fault) → o ≡ Some e → q ≡ Err e → left q bs cs bytes ≡ unless bs cs bytes o done
-  refused o e q d z = ap (λ (y : Result A Fault). left y bs cs bytes) z ∙ ap (λ (y : Option Fault). unless bs cs bytes y done) (sym d)
+  pub refused : (o : Option Fault) (e : Fault) (q : Result A Fault) → o ≡ Some e → q ≡ Err e → outcome q bs cs bytes ≡ unless bs cs bytes o done
+  refused o e q d z = ap (λ (y : Result A Fault). outcome y bs cs bytes) z ∙ ap (λ (y : Option Fault). unless bs cs bytes y done) (sym d)
 
   pub accepted : (o : Option Fault) → o ≡ None → done ≡ unless bs cs bytes o done
   accepted o d = ap (λ (y : Option Fault). unless bs cs bytes y done) (sym d)

@@ -2,9 +2,9 @@
 use Rattle.std.proofs.Common.{◌≡◌, ℕ, ◌+◌, ◌*◌, Bool, cond, ◌&&◌, List, Some, sym, refl, ap, ◌∙◌, subst}
 use Rattle.std.specs.List.{slice_get}
 use Rattle.clock.specs.declared.verdicts.Verdict.{Verdict}
-use Rattle.history.specs.declared.tables.Record.{Record}
-use Rattle.history.specs.Tables.{count, is_conflict, payload_in}
-use Rattle.history.specs.Report.{both, twins}
+use Rattle.yard_rules.specs.declared.tables.Record.{Record}
+use Rattle.yard_rules.specs.Tables.{count, is_conflict, payload_in}
+use Rattle.yard_rules.specs.Report.{both, twins}
 use Rattle.yard.proofs.Upto.{count_more}
 
 -- m is one more than n

@@ -1,7 +1,7 @@
 -- The search for the lowest file in conflict.
 use Rattle.std.proofs.Common.{◌≡◌, ℕ, zero, suc, ◌<◌, Bool, true, false, cond, Some, None, Option, sym, refl, ap, ◌∙◌, subst, ⊎_elim, arith}
 use Rattle.std.proofs.lemmas.Bool.{cases_eq, cond-true, cond-false}
-use Rattle.history.specs.Checks.{lowest}
+use Rattle.yard_rules.specs.Checks.{lowest}
 
 pub lowest-none : (n : ℕ) (t : ℕ → Bool) → ((k : ℕ) → k < n → t k ≡ false) → lowest n t ≡ None
 lowest-none zero t h = refl

@@ -4,10 +4,10 @@ use Rattle.std.specs.List.{slice_get}
 use Rattle.std.proofs.lemmas.Bool.{cases_Bool, cond-true, cond-false}
 use Rattle.clock.specs.declared.verdicts.Verdict.{Verdict}
 use Rattle.clock.specs.Meaning.{Meaning, Yes}
-use Rattle.history.specs.declared.tables.Record.{Record}
-use Rattle.history.specs.Tables.{or_else, clock_in, against, judged, is_stale, newer_from, row}
-use Rattle.history.proofs.Lookups.{entry}
-use Rattle.history.proofs.WellMade.{every_set}
+use Rattle.yard_rules.specs.declared.tables.Record.{Record}
+use Rattle.yard_rules.specs.Tables.{or_else, clock_in, against, judged, is_stale, newer_from, row}
+use Rattle.yard_rules.proofs.Lookups.{entry}
+use Rattle.yard_rules.proofs.WellMade.{every_set}
 use Rattle.yard.specs.Entries.{Clocks}
 use Rattle.yard.specs.Taking.{verdict_on, took, put_in}
 use Rattle.yard.proofs.Upto.{upto, row_rule, nth_waits, upto_set, upto_skip, rule_here, row_away, row_begun, row_ended}

@@ -5,9 +5,9 @@ use Rattle.std.specs.List.{slice_get}
 use Rattle.std.proofs.lemmas.Nat.{div-mul-add, mod-mul-add, div-add-mod', mod_below}
 use Rattle.std.proofs.lemmas.Option.{same_Some, none-some, slice_get_past}
 use Rattle.std.proofs.lemmas.Bool.{cases_eq, cases_lt, cond-true, cond-false, eq-eqb, ne_eqb, lt-ltb, le-ltb}
-use Rattle.history.specs.declared.tables.Record.{Record}
-use Rattle.history.specs.Tables.{each, row, count}
-use Rattle.history.proofs.Lookups.{over, over-same, nth_each, nth_set_same, nth_set_other, length_each}
+use Rattle.yard_rules.specs.declared.tables.Record.{Record}
+use Rattle.yard_rules.specs.Tables.{each, row, count}
+use Rattle.yard_rules.proofs.Lookups.{over, over-same, nth_each, nth_set_same, nth_set_other, length_each}
 
 pub nth_ext : {A : Type 0} (xs ys : List A) → ((k : ℕ) → slice_get xs k ≡ slice_get ys k) → xs ≡ ys
 nth_ext [] [] h = refl

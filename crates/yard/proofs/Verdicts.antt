@@ -8,9 +8,9 @@ use Rattle.clock.specs.declared.verdicts.Verdict.{Verdict}
 use Rattle.clock.specs.declared.verdicts.Verdict.TheVariants.{Equal, Stale, Ahead, Conflict}
 use Rattle.clock.specs.Verdicts.{byte_of}
 use Rattle.clock.specs.Meaning.{Meaning}
-use Rattle.history.specs.declared.tables.Record.{Record}
-use Rattle.history.specs.Tables.{clock_in, against, judged, is_equal, is_stale, is_ahead, is_conflict, reported, count}
-use Rattle.history.proofs.Lookups.{entry, over, length_each}
+use Rattle.yard_rules.specs.declared.tables.Record.{Record}
+use Rattle.yard_rules.specs.Tables.{clock_in, against, judged, is_equal, is_stale, is_ahead, is_conflict, reported, count}
+use Rattle.yard_rules.proofs.Lookups.{entry, over, length_each}
 use Rattle.yard.proofs.Upto.{nth_done, upto_set, upto-none}
 
 -- the records x and z, read at places i and j

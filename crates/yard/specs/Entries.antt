@@ -5,8 +5,8 @@
 use Rattle.std.specs.Prelude.{◌≡◌, ℕ, List, Some}
 use Rattle.std.specs.List.{slice_get}
 use Rattle.clock.specs.Meaning.{Meaning, Yes}
-use Rattle.history.specs.declared.tables.Berth.{Berth}
-use Rattle.history.specs.declared.tables.Record.{Record}
+use Rattle.yard_rules.specs.declared.tables.Berth.{Berth}
+use Rattle.yard_rules.specs.declared.tables.Record.{Record}
 
 module _ {Pen C P : Type 0} (m : Meaning Pen C) (cs : List (Record C P)) where
   abbrev pub Clocks : Type 0

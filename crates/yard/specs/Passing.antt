@@ -6,7 +6,7 @@
 -- at_place b f r  the answer of a clock kind, with berth and file added to a refusal
 use Rattle.std.specs.Prelude.{ℕ, List, [], ◌∷◌, Some, None, Ok, Err, Option, Result}
 use Rattle.clock.specs.declared.faults.Fault.{Fault}
-use Rattle.history.specs.Checks.{fault}
+use Rattle.yard_rules.specs.Checks.{fault}
 
 abbrev pub passing : Option Fault → Result (Unit {0}) Fault
 passing None = Ok tt

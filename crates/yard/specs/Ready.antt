@@ -1,7 +1,7 @@
 -- What holds of two berths once a call's checks of them have passed: what the code below the checks
 -- asks for.
 use Rattle.std.specs.Prelude.{◌≡◌, ℕ, ◌*◌, ◌<◌, ◌≤◌}
-use Rattle.history.specs.Tables.{Card}
+use Rattle.yard_rules.specs.Tables.{Card}
 
 pub record Ready (card : Card) (berths copies a b : ℕ) : Type 0 where
   pub few_berths : card.berths ≤ 16

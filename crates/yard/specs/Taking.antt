@@ -6,8 +6,8 @@ use Rattle.std.specs.Prelude.{ℕ, if◌then◌else◌, List, Some, None, Option
 use Rattle.std.specs.List.{slice_get}
 use Rattle.clock.specs.declared.verdicts.Verdict.{Verdict}
 use Rattle.clock.specs.Meaning.{Meaning}
-use Rattle.history.specs.declared.tables.Record.{Record}
-use Rattle.history.specs.Tables.{clock_in, against, is_stale}
+use Rattle.yard_rules.specs.declared.tables.Record.{Record}
+use Rattle.yard_rules.specs.Tables.{clock_in, against, is_stale}
 
 -- an entry written, where there is one to write
 abbrev pub put_in : {A : Type 0} → List A → ℕ → Option A → List A

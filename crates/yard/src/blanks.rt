@@ -1,8 +1,8 @@
 ghost use Rattle.std.specs.Prelude.{◌≡◌};
-ghost use Rattle.history.specs.Tables.{empty_berth};
+ghost use Rattle.yard_rules.specs.Tables.{empty_berth};
 
 use clock::Clock;
-use history::{Berth, Record, State};
+use yard_rules::{Berth, Record, State};
 
 /// An empty berth, to lay out a berth table with.
 pub fn blank_berth<C: Clock>() -> Berth<C::Pen>

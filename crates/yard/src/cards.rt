@@ -1,7 +1,7 @@
 ghost use Rattle.std.specs.Prelude.{◌≡◌};
-ghost use Rattle.history.specs.declared.tables.Sizes.{Sizes};
+ghost use Rattle.yard_rules.specs.declared.tables.Sizes.{Sizes};
 
-use history::Sizes;
+use yard_rules::Sizes;
 
 /// What only this crate's cards have, so that no other crate makes a card.
 pub trait Own {}

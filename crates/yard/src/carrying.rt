@@ -1,10 +1,10 @@
 ghost use Rattle.std.specs.Prelude.{◌≡◌};
-ghost use Rattle.history.specs.declared.calls.Call.TheVariants.{Reads, Writes};
-ghost use Rattle.history.specs.Tables.{Made};
-ghost use Rattle.history.specs.Checks.{left};
-ghost use Rattle.history.specs.Page.{asked};
-ghost use Rattle.history.specs.Calls.{leaves, said};
-ghost use Rattle.history.specs.Law.{LawfulCall};
+ghost use Rattle.yard_rules.specs.declared.calls.Call.TheVariants.{Reads, Writes};
+ghost use Rattle.yard_rules.specs.Tables.{Made};
+ghost use Rattle.yard_rules.specs.Checks.{outcome};
+ghost use Rattle.yard_rules.specs.Page.{asked};
+ghost use Rattle.yard_rules.specs.Calls.{leaves, said};
+ghost use Rattle.yard_rules.specs.Law.{LawfulCall};
 
 use crate::cards::Card;
 use crate::dropping::drop;
@@ -19,8 +19,8 @@ use crate::settling::settle;
 use crate::showing::show;
 use crate::telling::{done, judged, pulled, reported, shown};
 use clock::{Clock, Fault};
-use history::{Answer, Berth, Reading, Record, Writing};
 use payload::Payload;
+use yard_rules::{Answer, Berth, Reading, Record, Writing};
 
 /// Carries out any call that reads: what its own function answers, as a value
 /// of the one type of answers, and leaves.
@@ -33,7 +33,7 @@ pub fn read<K: Card, C: Clock, P: Payload>(
 ) -> Result<Answer<C::Pen, C>, Fault>
     requires made { Made C.meaning berths.now copies.now }
     ensures result { let q = asked (K.sizes card.now) (Reads call) bytes.old in
-        left result berths.now copies.now bytes.new
+        outcome result berths.now copies.now bytes.new
         ≡ said C.meaning P.same q berths.now copies.now }
     ensures history { let q = asked (K.sizes card.now) (Reads call) bytes.old in
         LawfulCall C.meaning P.same q berths.now copies.now
@@ -51,7 +51,7 @@ fn read_call<K: Card, C: Clock, P: Payload>(
 ) -> Result<Answer<C::Pen, C>, Fault>
     requires made { Made C.meaning berths.now copies.now }
     ensures { let q = asked (K.sizes card.now) (Reads call) bytes.old in
-        left result berths.now copies.now bytes.new
+        outcome result berths.now copies.now bytes.new
         ≡ said C.meaning P.same q berths.now copies.now }
 {
     match call {
@@ -72,7 +72,7 @@ pub fn write<C: Clock, P: Payload>(
 ) -> Result<Answer<C::Pen, C>, Fault>
     requires made { Made C.meaning berths.old copies.old }
     ensures result { let q = asked card.now (Writes call) bytes.old in
-        left result berths.new copies.new bytes.new
+        outcome result berths.new copies.new bytes.new
         ≡ said C.meaning P.same q berths.old copies.old }
     ensures made { Made C.meaning berths.new copies.new }
     ensures history { let q = asked card.now (Writes call) bytes.old in
@@ -91,7 +91,7 @@ fn write_call<C: Clock, P: Payload>(
 ) -> Result<Answer<C::Pen, C>, Fault>
     requires made { Made C.meaning berths.old copies.old }
     ensures { let q = asked card.now (Writes call) bytes.old in
-        left result berths.new copies.new bytes.new
+        outcome result berths.new copies.new bytes.new
         ≡ said C.meaning P.same q berths.old copies.old }
 {
     match call {

@@ -1,12 +1,11 @@
-ghost use Rattle.std.specs.Prelude.{◌≡◌, ◌+◌, ◌*◌, ◌<◌, ◌≤◌, [], ◌∷◌};
+ghost use Rattle.std.specs.Prelude.{◌≡◌, [], ◌∷◌};
 ghost use Rattle.clock.specs.Answers.{due};
-ghost use Rattle.history.specs.Tables.{working};
-ghost use Rattle.history.specs.Checks.{wrong_sizes, no_berth, no_file, same_berth, not_working, not_empty, short_buffer};
+ghost use Rattle.yard_rules.specs.Tables.{working};
+ghost use Rattle.yard_rules.specs.Checks.{wrong_sizes, no_berth, no_file, same_berth, not_working, not_empty, short_buffer};
 ghost use Rattle.yard.specs.Passing.{passing, all_pass};
 
 use clock::{Cause, Fault};
-use history::{Berth, Record, Sizes, State};
-use std::ops::Range;
+use yard_rules::{Berth, Record, Sizes, State};
 
 /// Refuses where the refusal is due.
 pub fn refuse_if(is_due: bool, fault: Fault) -> Result<(), Fault>
@@ -103,25 +102,4 @@ pub fn check_buffer(sizes: Sizes, bytes: &[u8]) -> Result<(), Fault>
     ensures { result ≡ passing (short_buffer sizes bytes.now) }
 {
     refuse_if(bytes.len() < sizes.files, Cause::ShortBuffer.into())
-}
-
-/// Where the records of berth a stand, one for each file.
-pub fn row(sizes: Sizes, a: usize) -> Range<usize>
-    requires { (a < sizes.berths) × ((sizes.berths ≤ 16) × (sizes.files ≤ 32)) }
-    ensures start { result.start ≡ a * sizes.files }
-    ensures end { result.end ≡ a * sizes.files + sizes.files }
-    ensures within { result.end ≤ sizes.berths * sizes.files }
-{
-    let start = a * sizes.files;
-    start..start + sizes.files
-}
-
-/// The record of berth a and file f.
-pub fn place(sizes: Sizes, a: usize, f: usize) -> usize
-    requires { (a < sizes.berths) × ((sizes.berths ≤ 16)
-        × ((f < sizes.files) × (sizes.files ≤ 32))) }
-    ensures is { result ≡ a * sizes.files + f }
-    ensures within { result < sizes.berths * sizes.files }
-{
-    a * sizes.files + f
 }

@@ -1,8 +1,8 @@
 ghost use Rattle.std.specs.Prelude.{◌≡◌, []};
-ghost use Rattle.history.specs.Tables.{Made};
-ghost use Rattle.history.specs.Checks.{left};
-ghost use Rattle.history.specs.Drop.{drop_checks, drop_result, drop_call};
-ghost use Rattle.history.specs.Law.{LawfulAt};
+ghost use Rattle.yard_rules.specs.Tables.{Made};
+ghost use Rattle.yard_rules.specs.Checks.{outcome};
+ghost use Rattle.yard_rules.specs.Drop.{drop_checks, drop_result, drop_call};
+ghost use Rattle.yard_rules.specs.Law.{LawfulAt};
 ghost use Rattle.yard.specs.Passing.{all_pass};
 
 use crate::blanks::blank_berth;
@@ -10,7 +10,7 @@ use crate::cards::Card;
 use crate::checks::{check_berth, check_sizes, check_working};
 use crate::open_card::OpenCard;
 use clock::{Clock, Fault};
-use history::{Berth, Record, Sizes};
+use yard_rules::{Berth, Record, Sizes};
 
 fn check_drop<Q, C, P>(
     sizes: Sizes,
@@ -26,14 +26,14 @@ fn check_drop<Q, C, P>(
 }
 
 // The drop, under a card of these sizes.
-fn drop_berth<C: Clock, P: Copy>(
+fn drop_sized<C: Clock, P: Copy>(
     sizes: Sizes,
     berths: &mut [Berth<C::Pen>],
     copies: &[Record<C, P>],
     a: usize,
 ) -> Result<(), Fault>
     requires made { Made C.meaning berths.old copies.now }
-    ensures { left result berths.new copies.now []
+    ensures { outcome result berths.new copies.now []
         ≡ drop_result C.meaning sizes berths.old copies.now a }
 {
     check_drop(sizes, berths, copies, a)?;
@@ -50,11 +50,11 @@ pub fn drop<C: Clock, P: Copy>(
     a: usize,
 ) -> Result<(), Fault>
     requires made { Made C.meaning berths.old copies.now }
-    ensures result { left result berths.new copies.now []
+    ensures result { outcome result berths.new copies.now []
         ≡ drop_result C.meaning card.now berths.old copies.now a }
     ensures made { Made C.meaning berths.new copies.now }
     ensures history { LawfulAt C.meaning (drop_call card.now a) berths.old copies.now
-        (left result berths.new copies.now []) }
+        (outcome result berths.new copies.now []) }
 {
-    drop_berth(card.sizes(), berths, copies, a)
+    drop_sized(card.sizes(), berths, copies, a)
 }

@@ -1,15 +1,16 @@
 ghost use Rattle.std.specs.Prelude.{◌≡◌, []};
-ghost use Rattle.history.specs.Tables.{Made};
-ghost use Rattle.history.specs.Checks.{left};
-ghost use Rattle.history.specs.Edit.{edit_result, edit_call};
-ghost use Rattle.history.specs.Law.{LawfulAt};
+ghost use Rattle.yard_rules.specs.Tables.{Made};
+ghost use Rattle.yard_rules.specs.Checks.{outcome};
+ghost use Rattle.yard_rules.specs.Edit.{edit_result, edit_call};
+ghost use Rattle.yard_rules.specs.Law.{LawfulAt};
 
 use crate::cards::Card;
-use crate::checks::{check_copy, place};
+use crate::checks::check_copy;
+use crate::fault_places::Place;
 use crate::open_card::OpenCard;
-use crate::places::Place;
+use crate::records::place;
 use clock::{Clock, Fault};
-use history::{Berth, Record, Sizes};
+use yard_rules::{Berth, Record, Sizes};
 
 /// Working berth `a` writes `payload` into its copy of file `f`, an event under
 /// its pen. Refused with 1, 2, 3, 5, and the kind's 14 to 16.
@@ -22,11 +23,11 @@ pub fn edit<C: Clock, P: Copy>(
     payload: P,
 ) -> Result<(), Fault>
     requires made { Made C.meaning berths.now copies.old }
-    ensures result { left result berths.now copies.new []
+    ensures result { outcome result berths.now copies.new []
         ≡ edit_result C.meaning card.now berths.now copies.old a f payload }
     ensures made { Made C.meaning berths.now copies.new }
     ensures history { LawfulAt C.meaning (edit_call card.now a f payload) berths.now copies.old
-        (left result berths.now copies.new []) }
+        (outcome result berths.now copies.new []) }
 {
     let sizes = card.sizes();
     check_copy(sizes, berths, copies, a, f)?;

@@ -1,17 +1,18 @@
 ghost use Rattle.std.specs.Prelude.{◌≡◌, [], length, ◌≢◌};
-ghost use Rattle.history.specs.Tables.{Made, row, copy_from};
-ghost use Rattle.history.specs.Checks.{left};
-ghost use Rattle.history.specs.Fork.{fork_plain, fork_result, fork_call};
-ghost use Rattle.history.specs.Law.{LawfulAt};
+ghost use Rattle.yard_rules.specs.Tables.{Made, row, copy_from};
+ghost use Rattle.yard_rules.specs.Checks.{outcome};
+ghost use Rattle.yard_rules.specs.Fork.{fork_plain, fork_result, fork_call};
+ghost use Rattle.yard_rules.specs.Law.{LawfulAt};
 ghost use Rattle.yard.specs.Passing.{all_pass};
 ghost use Rattle.yard.specs.Ready.{Ready};
 
 use crate::cards::Card;
-use crate::checks::{check_berth, check_empty, check_sizes, check_two, check_working, row};
+use crate::checks::{check_berth, check_empty, check_sizes, check_two, check_working};
+use crate::fault_places::Place;
 use crate::open_card::OpenCard;
-use crate::places::Place;
+use crate::records::row;
 use clock::{Clock, Fault};
-use history::{Berth, Record, Sizes};
+use yard_rules::{Berth, Record, Sizes};
 
 fn check_fork<Q, C, P>(
     sizes: Sizes,
@@ -39,7 +40,7 @@ fn copy_files<C: Copy, P: Copy>(sizes: Sizes, copies: &mut [Record<C, P>], a: us
 }
 
 // The fork, under a card of these sizes.
-fn fork_berth<C: Clock, P: Copy>(
+fn fork_sized<C: Clock, P: Copy>(
     sizes: Sizes,
     berths: &mut [Berth<C::Pen>],
     copies: &mut [Record<C, P>],
@@ -47,7 +48,7 @@ fn fork_berth<C: Clock, P: Copy>(
     b: usize,
 ) -> Result<(), Fault>
     requires made { Made C.meaning berths.old copies.old }
-    ensures { left result berths.new copies.new []
+    ensures { outcome result berths.new copies.new []
         ≡ fork_result C.meaning sizes berths.old copies.old a b }
 {
     check_fork(sizes, berths, copies, a, b)?;
@@ -69,11 +70,11 @@ pub fn fork<C: Clock, P: Copy>(
     b: usize,
 ) -> Result<(), Fault>
     requires made { Made C.meaning berths.old copies.old }
-    ensures result { left result berths.new copies.new []
+    ensures result { outcome result berths.new copies.new []
         ≡ fork_result C.meaning card.now berths.old copies.old a b }
     ensures made { Made C.meaning berths.new copies.new }
     ensures history { LawfulAt C.meaning (fork_call card.now a b) berths.old copies.old
-        (left result berths.new copies.new []) }
+        (outcome result berths.new copies.new []) }
 {
-    fork_berth(card.sizes(), berths, copies, a, b)
+    fork_sized(card.sizes(), berths, copies, a, b)
 }

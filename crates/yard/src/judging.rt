@@ -1,14 +1,15 @@
 ghost use Rattle.std.specs.Prelude.{◌≡◌, []};
-ghost use Rattle.history.specs.Tables.{Made};
-ghost use Rattle.history.specs.Checks.{left};
-ghost use Rattle.history.specs.Judge.{judge_checks, judge_result, judge_call};
-ghost use Rattle.history.specs.Law.{LawfulAt};
+ghost use Rattle.yard_rules.specs.Tables.{Made};
+ghost use Rattle.yard_rules.specs.Checks.{outcome};
+ghost use Rattle.yard_rules.specs.Judge.{judge_checks, judge_result, judge_call};
+ghost use Rattle.yard_rules.specs.Law.{LawfulAt};
 ghost use Rattle.yard.specs.Passing.{all_pass};
 
 use crate::cards::Card;
-use crate::checks::{check_berth, check_file, check_sizes, check_working, place};
+use crate::checks::{check_berth, check_file, check_sizes, check_working};
+use crate::records::place;
 use clock::{Clock, Fault, Verdict};
-use history::{Berth, Record, Sizes};
+use yard_rules::{Berth, Record, Sizes};
 
 fn check_judge<Q, C, P>(
     sizes: Sizes,
@@ -28,7 +29,7 @@ fn check_judge<Q, C, P>(
     check_working(berths, b)
 }
 
-fn judge_copies<C: Clock, P: Copy>(
+fn judge_sized<C: Clock, P: Copy>(
     sizes: Sizes,
     berths: &[Berth<C::Pen>],
     copies: &[Record<C, P>],
@@ -37,7 +38,7 @@ fn judge_copies<C: Clock, P: Copy>(
     f: usize,
 ) -> Result<Verdict, Fault>
     requires { Made C.meaning berths.now copies.now }
-    ensures { left result berths.now copies.now []
+    ensures { outcome result berths.now copies.now []
         ≡ judge_result C.meaning sizes berths.now copies.now a b f }
 {
     check_judge(sizes, berths, copies, a, b, f)?;
@@ -58,10 +59,10 @@ pub fn judge<K: Card, C: Clock, P: Copy>(
     f: usize,
 ) -> Result<Verdict, Fault>
     requires made { Made C.meaning berths.now copies.now }
-    ensures result { left result berths.now copies.now []
+    ensures result { outcome result berths.now copies.now []
         ≡ judge_result C.meaning (K.sizes card.now) berths.now copies.now a b f }
     ensures history { LawfulAt C.meaning (judge_call (K.sizes card.now) a b f) berths.now copies.now
-        (left result berths.now copies.now []) }
+        (outcome result berths.now copies.now []) }
 {
-    judge_copies(card.sizes(), berths, copies, a, b, f)
+    judge_sized(card.sizes(), berths, copies, a, b, f)
 }

@@ -1,6 +1,6 @@
 use crate::cards::{Card, Own};
-use history::Sizes;
 use std::marker::Model;
+use yard_rules::Sizes;
 
 /// The right to change a yard, with its sizes. Only `open` makes one, and it
 /// cannot be copied: `seal` takes it away.
@@ -11,7 +11,7 @@ pub struct OpenCard {
 
 /// A clause sees a card as the sizes that it stands for.
 impl Model for OpenCard {
-    ghost use Rattle.history.specs.declared.tables.Sizes.{Sizes};
+    ghost use Rattle.yard_rules.specs.declared.tables.Sizes.{Sizes};
 
     ghost Value = { Sizes };
 

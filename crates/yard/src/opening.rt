@@ -1,14 +1,14 @@
 ghost use Rattle.std.specs.Prelude.{◌≡◌, ◌<◌, [], length, if◌then◌else◌, nat_eq, OnOk};
-ghost use Rattle.history.specs.Tables.{Made, working_berth, empty_berth};
-ghost use Rattle.history.specs.Checks.{left};
-ghost use Rattle.history.specs.Open.{opened_berths, opened_copies, open_result};
-ghost use Rattle.history.specs.Law.{LawfulOpen};
+ghost use Rattle.yard_rules.specs.Tables.{Made, working_berth, empty_berth};
+ghost use Rattle.yard_rules.specs.Checks.{outcome};
+ghost use Rattle.yard_rules.specs.Open.{opened_berths, opened_copies, open_result};
+ghost use Rattle.yard_rules.specs.Law.{LawfulOpen};
 
 use crate::blanks::blank_berth;
 use crate::checks::check_sizes;
 use crate::open_card::OpenCard;
 use clock::{Clock, Fault};
-use history::{Berth, Record, Sizes};
+use yard_rules::{Berth, Record, Sizes};
 
 // Berth 0 works with the seed pen, the others are empty.
 fn opening_berth<C: Clock>(b: usize) -> Berth<C::Pen>
@@ -53,10 +53,10 @@ pub fn open<C: Clock, P: Copy>(
     copies: &mut [Record<C, P>],
     payloads: &[P],
 ) -> Result<OpenCard, Fault>
-    ensures result { left result berths.new copies.new []
+    ensures result { outcome result berths.new copies.new []
         ≡ open_result C.meaning berths.old copies.old payloads.now }
     ensures made { OnOk result (Made C.meaning berths.new copies.new) }
-    ensures history { LawfulOpen C.meaning payloads.now (left result berths.new copies.new []) }
+    ensures history { LawfulOpen C.meaning payloads.now (outcome result berths.new copies.new []) }
 {
     let sizes = Sizes {
         berths: berths.len(),

@@ -1,20 +1,21 @@
 ghost use Rattle.std.specs.Prelude.{◌≡◌, ◌≤◌, length, ◌≢◌};
-ghost use Rattle.history.specs.Tables.{Made, row, newer_from, judged, reported, count};
-ghost use Rattle.history.specs.Tables.{is_stale, is_conflict};
-ghost use Rattle.history.specs.Checks.{left};
-ghost use Rattle.history.specs.Pull.{pull_checks, pull_result, pull_call};
-ghost use Rattle.history.specs.Law.{LawfulAt};
+ghost use Rattle.yard_rules.specs.Tables.{Made, row, newer_from, judged, reported, count};
+ghost use Rattle.yard_rules.specs.Tables.{is_stale, is_conflict};
+ghost use Rattle.yard_rules.specs.Checks.{outcome};
+ghost use Rattle.yard_rules.specs.Pull.{pull_checks, pull_result, pull_call};
+ghost use Rattle.yard_rules.specs.Law.{LawfulAt};
 ghost use Rattle.yard.specs.Passing.{all_pass};
 ghost use Rattle.yard.specs.Ready.{Ready};
 ghost use Rattle.yard.specs.Entries.{Clocks};
 
 use crate::cards::Card;
-use crate::checks::{check_buffer, row};
+use crate::checks::check_buffer;
 use crate::counting::count_verdict;
 use crate::open_card::OpenCard;
+use crate::records::row;
 use crate::taking::{check_two_working, take_newer};
 use clock::{Clock, Fault, Verdict};
-use history::{Berth, Record, Sizes};
+use yard_rules::{Berth, Record, Sizes};
 
 fn check_pull<Q, C, P>(
     sizes: Sizes,
@@ -61,7 +62,7 @@ fn pull_files<C: Clock, P: Copy>(
 }
 
 // The pull, under a card of these sizes.
-fn pull_copies<C: Clock, P: Copy>(
+fn pull_sized<C: Clock, P: Copy>(
     sizes: Sizes,
     berths: &[Berth<C::Pen>],
     copies: &mut [Record<C, P>],
@@ -70,7 +71,7 @@ fn pull_copies<C: Clock, P: Copy>(
     b: usize,
 ) -> Result<(usize, usize), Fault>
     requires made { Made C.meaning berths.now copies.old }
-    ensures { left result berths.now copies.new bytes.new
+    ensures { outcome result berths.now copies.new bytes.new
         ≡ pull_result C.meaning sizes berths.now copies.old a b bytes.old }
 {
     check_pull(sizes, berths, copies, bytes, a, b)?;
@@ -90,11 +91,11 @@ pub fn pull<C: Clock, P: Copy>(
     b: usize,
 ) -> Result<(usize, usize), Fault>
     requires made { Made C.meaning berths.now copies.old }
-    ensures result { left result berths.now copies.new bytes.new
+    ensures result { outcome result berths.now copies.new bytes.new
         ≡ pull_result C.meaning card.now berths.now copies.old a b bytes.old }
     ensures made { Made C.meaning berths.now copies.new }
     ensures history { LawfulAt C.meaning (pull_call card.now a b bytes.old) berths.now copies.old
-        (left result berths.now copies.new bytes.new) }
+        (outcome result berths.now copies.new bytes.new) }
 {
-    pull_copies(card.sizes(), berths, copies, bytes, a, b)
+    pull_sized(card.sizes(), berths, copies, bytes, a, b)
 }

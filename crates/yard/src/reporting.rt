@@ -1,19 +1,20 @@
 ghost use Rattle.std.specs.Prelude.{◌≡◌, ◌≤◌, length};
-ghost use Rattle.history.specs.Tables.{Made, judged, reported};
-ghost use Rattle.history.specs.Checks.{left};
-ghost use Rattle.history.specs.Report.{report_checks, report_result, report_call};
-ghost use Rattle.history.specs.Report.{counts, twins as twins_of};
-ghost use Rattle.history.specs.Law.{LawfulCall};
+ghost use Rattle.yard_rules.specs.Tables.{Made, judged, reported};
+ghost use Rattle.yard_rules.specs.Checks.{outcome};
+ghost use Rattle.yard_rules.specs.Report.{report_checks, report_result, report_call};
+ghost use Rattle.yard_rules.specs.Report.{counts, twins as twins_of};
+ghost use Rattle.yard_rules.specs.Law.{LawfulCall};
 ghost use Rattle.yard.specs.Passing.{all_pass};
 ghost use Rattle.yard.specs.Ready.{Ready};
 ghost use Rattle.yard.specs.Entries.{Clocks};
 
 use crate::cards::Card;
-use crate::checks::{check_berth, check_buffer, check_sizes, check_working, row};
+use crate::checks::{check_berth, check_buffer, check_sizes, check_working};
 use crate::counting::count_verdict;
+use crate::records::row;
 use clock::{Clock, Fault, Verdict};
-use history::{Berth, Record, Sizes};
 use payload::Payload;
+use yard_rules::{Berth, Record, Sizes};
 
 fn check_report<Q, C, P>(
     sizes: Sizes,
@@ -67,7 +68,7 @@ fn report_files<C: Clock, P: Payload>(
     (equal, stale, ahead, conflicts, twins)
 }
 
-fn report_copies<C: Clock, P: Payload>(
+fn report_sized<C: Clock, P: Payload>(
     sizes: Sizes,
     berths: &[Berth<C::Pen>],
     copies: &[Record<C, P>],
@@ -76,7 +77,7 @@ fn report_copies<C: Clock, P: Payload>(
     b: usize,
 ) -> Result<(usize, usize, usize, usize, usize), Fault>
     requires { Made C.meaning berths.now copies.now }
-    ensures { left result berths.now copies.now bytes.new
+    ensures { outcome result berths.now copies.now bytes.new
         ≡ report_result C.meaning sizes berths.now copies.now P.same a b bytes.old }
 {
     check_report(sizes, berths, copies, bytes, a, b)?;
@@ -96,10 +97,10 @@ pub fn report<K: Card, C: Clock, P: Payload>(
     b: usize,
 ) -> Result<(usize, usize, usize, usize, usize), Fault>
     requires made { Made C.meaning berths.now copies.now }
-    ensures result { left result berths.now copies.now bytes.new
+    ensures result { outcome result berths.now copies.now bytes.new
         ≡ report_result C.meaning (K.sizes card.now) berths.now copies.now P.same a b bytes.old }
     ensures history { LawfulCall C.meaning P.same (report_call (K.sizes card.now) a b bytes.old)
-        berths.now copies.now (left result berths.now copies.now bytes.new) }
+        berths.now copies.now (outcome result berths.now copies.now bytes.new) }
 {
-    report_copies(card.sizes(), berths, copies, bytes, a, b)
+    report_sized(card.sizes(), berths, copies, bytes, a, b)
 }

@@ -1,21 +1,21 @@
 ghost use Rattle.std.specs.Prelude.{◌≡◌, ◌<◌, [], ◌∷◌, ◌++◌, length, set};
 ghost use Rattle.clock.specs.Answers.{answered};
-ghost use Rattle.history.specs.Tables.{pen_at, working_berth, empty_berth, Made};
-ghost use Rattle.history.specs.Checks.{left, some_conflict};
-ghost use Rattle.history.specs.Retire.{retire_plain, retire_result, retire_call};
-ghost use Rattle.history.specs.Law.{LawfulAt};
+ghost use Rattle.yard_rules.specs.Tables.{pen_at, working_berth, empty_berth, Made};
+ghost use Rattle.yard_rules.specs.Checks.{outcome, some_conflict};
+ghost use Rattle.yard_rules.specs.Retire.{retire_plain, retire_result, retire_call};
+ghost use Rattle.yard_rules.specs.Law.{LawfulAt};
 ghost use Rattle.yard.specs.Passing.{passing, all_pass};
 ghost use Rattle.yard.specs.Ready.{Ready};
 ghost use Rattle.yard.specs.Entries.{Clocks, Pens};
 
 use crate::blanks::blank_berth;
 use crate::cards::Card;
-use crate::checks::row;
+use crate::fault_places::Place;
 use crate::open_card::OpenCard;
-use crate::places::Place;
+use crate::records::row;
 use crate::taking::{check_two_working, take_files};
 use clock::{Cause, Clock, Fault, Verdict};
-use history::{Berth, Record, Sizes};
+use yard_rules::{Berth, Record, Sizes};
 
 // 8: no file is in conflict.
 fn check_calm<C: Clock, P: Copy>(
@@ -72,7 +72,7 @@ fn hand_over<C: Clock>(berths: &mut [Berth<C::Pen>], a: usize, b: usize, pen: C:
 }
 
 // The retiring, under a card of these sizes.
-fn retire_berth<C: Clock, P: Copy>(
+fn retire_sized<C: Clock, P: Copy>(
     sizes: Sizes,
     berths: &mut [Berth<C::Pen>],
     copies: &mut [Record<C, P>],
@@ -80,7 +80,7 @@ fn retire_berth<C: Clock, P: Copy>(
     b: usize,
 ) -> Result<(), Fault>
     requires made { Made C.meaning berths.old copies.old }
-    ensures { left result berths.new copies.new []
+    ensures { outcome result berths.new copies.new []
         ≡ retire_result C.meaning sizes berths.old copies.old a b }
 {
     check_retire(sizes, berths, copies, a, b)?;
@@ -102,11 +102,11 @@ pub fn retire<C: Clock, P: Copy>(
     b: usize,
 ) -> Result<(), Fault>
     requires made { Made C.meaning berths.old copies.old }
-    ensures result { left result berths.new copies.new []
+    ensures result { outcome result berths.new copies.new []
         ≡ retire_result C.meaning card.now berths.old copies.old a b }
     ensures made { Made C.meaning berths.new copies.new }
     ensures history { LawfulAt C.meaning (retire_call card.now a b) berths.old copies.old
-        (left result berths.new copies.new []) }
+        (outcome result berths.new copies.new []) }
 {
-    retire_berth(card.sizes(), berths, copies, a, b)
+    retire_sized(card.sizes(), berths, copies, a, b)
 }

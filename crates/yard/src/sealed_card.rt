@@ -1,6 +1,6 @@
 use crate::cards::{Card, Own};
-use history::Sizes;
 use std::marker::Model;
+use yard_rules::Sizes;
 
 /// The right to read a sealed yard, with its sizes. Only `seal` makes one.
 // Two types of cards and not one with a parameter: a reader is to see the two.
@@ -11,7 +11,7 @@ pub struct SealedCard {
 
 /// A clause sees a card as the sizes that it stands for.
 impl Model for SealedCard {
-    ghost use Rattle.history.specs.declared.tables.Sizes.{Sizes};
+    ghost use Rattle.yard_rules.specs.declared.tables.Sizes.{Sizes};
 
     ghost Value = { Sizes };
 

@@ -1,20 +1,19 @@
 ghost use Rattle.std.specs.Prelude.{◌≡◌, not, [], Some, None};
 ghost use Rattle.clock.specs.Answers.{due};
 ghost use Rattle.clock.specs.declared.causes.Cause.TheVariants.{NoConflict};
-ghost use Rattle.history.specs.Tables.{is_conflict, Made};
-ghost use Rattle.history.specs.Checks.{fault, left};
-ghost use Rattle.history.specs.Settle.{settle_plain, settle_result, settle_call};
-ghost use Rattle.history.specs.Law.{LawfulAt};
+ghost use Rattle.yard_rules.specs.Tables.{is_conflict, Made};
+ghost use Rattle.yard_rules.specs.Checks.{fault, outcome};
+ghost use Rattle.yard_rules.specs.Settle.{settle_plain, settle_result, settle_call};
+ghost use Rattle.yard_rules.specs.Law.{LawfulAt};
 ghost use Rattle.yard.specs.Passing.{passing, all_pass};
 
 use crate::cards::Card;
-use crate::checks::{
-    check_berth, check_file, check_sizes, check_two, check_working, place, refuse_if,
-};
+use crate::checks::{check_berth, check_file, check_sizes, check_two, check_working, refuse_if};
+use crate::fault_places::Place;
 use crate::open_card::OpenCard;
-use crate::places::Place;
+use crate::records::place;
 use clock::{Cause, Clock, Fault, Verdict};
-use history::{Berth, Record, Sizes};
+use yard_rules::{Berth, Record, Sizes};
 
 fn check_settle<Q, C, P>(
     sizes: Sizes,
@@ -57,11 +56,11 @@ pub fn settle<C: Clock, P: Copy>(
     payload: P,
 ) -> Result<(), Fault>
     requires made { Made C.meaning berths.now copies.old }
-    ensures result { left result berths.now copies.new []
+    ensures result { outcome result berths.now copies.new []
         ≡ settle_result C.meaning card.now berths.now copies.old a b f payload }
     ensures made { Made C.meaning berths.now copies.new }
     ensures history { LawfulAt C.meaning (settle_call card.now a b f payload) berths.now copies.old
-        (left result berths.now copies.new []) }
+        (outcome result berths.now copies.new []) }
 {
     let sizes = card.sizes();
     check_settle(sizes, berths, copies, a, b, f)?;

@@ -1,14 +1,15 @@
 ghost use Rattle.std.specs.Prelude.{◌≡◌, ◌<◌, length, ◌≢◌};
-ghost use Rattle.history.specs.Tables.{row, newer_from};
-ghost use Rattle.history.specs.Retire.{retire_plain};
+ghost use Rattle.yard_rules.specs.Tables.{row, newer_from};
+ghost use Rattle.yard_rules.specs.Retire.{retire_plain};
 ghost use Rattle.yard.specs.Passing.{all_pass};
 ghost use Rattle.yard.specs.Ready.{Ready};
 ghost use Rattle.yard.specs.Entries.{Clocks};
 ghost use Rattle.yard.specs.Taking.{verdict_on, took};
 
-use crate::checks::{check_berth, check_sizes, check_two, check_working, row};
+use crate::checks::{check_berth, check_sizes, check_two, check_working};
+use crate::records::row;
 use clock::{Clock, Fault, Verdict};
-use history::{Berth, Record, Sizes};
+use yard_rules::{Berth, Record, Sizes};
 
 // What pull and retire check alike: two berths in use, not the same twice.
 pub(crate) fn check_two_working<Q, C, P>(

@@ -1,9 +1,9 @@
 ghost use Rattle.std.specs.Prelude.{◌≡◌};
-ghost use Rattle.history.specs.declared.answers.Answer.TheVariants.{Done, Judged, Reported, Pulled, Shown};
-ghost use Rattle.history.specs.Calls.{in_form};
+ghost use Rattle.yard_rules.specs.declared.answers.Answer.TheVariants.{Done, Judged, Reported, Pulled, Shown};
+ghost use Rattle.yard_rules.specs.Calls.{in_form};
 
 use clock::{Fault, Verdict};
-use history::Answer;
+use yard_rules::Answer;
 
 // What each call answers, as a value of the one type of answers.
 

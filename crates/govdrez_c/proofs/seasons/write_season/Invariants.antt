@@ -1,5 +1,5 @@
 -- The tables stay well made.
-use Rattle.history.specs.Tables.{Made}
+use Rattle.yard_rules.specs.Tables.{Made}
 use Rattle.govdrez_c.proofs.seasons.write_season.Given as goal
 
 abbrev pub invariant-loop-call : goal.invariant-loop-call

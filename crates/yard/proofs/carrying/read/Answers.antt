@@ -1,6 +1,6 @@
-use Rattle.history.specs.declared.calls.Call.TheVariants.{Reads}
-use Rattle.history.specs.Page.{asked}
-use Rattle.history.proofs.Law.{lawful_call}
+use Rattle.yard_rules.specs.declared.calls.Call.TheVariants.{Reads}
+use Rattle.yard_rules.specs.Page.{asked}
+use Rattle.yard_rules.proofs.Law.{lawful_call}
 use Rattle.yard.proofs.carrying.read.Goals as goal
 
 pub returns-clause-history : goal.returns-clause-history

@@ -1,6 +1,6 @@
 use Rattle.std.proofs.Common.{ap}
-use Rattle.history.specs.declared.answers.Answer.TheVariants.{Done, Pulled}
-use Rattle.history.specs.Calls.{in_words}
+use Rattle.yard_rules.specs.declared.answers.Answer.TheVariants.{Done, Pulled}
+use Rattle.yard_rules.specs.Calls.{in_words}
 use Rattle.yard.proofs.Carried.{told_lent}
 use Rattle.yard.proofs.carrying.write_call.Goals as goal
 

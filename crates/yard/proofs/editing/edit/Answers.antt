@@ -1,8 +1,8 @@
 use Rattle.std.proofs.Common.{rules, get_or, Err, ap, ◌∙◌}
 use Rattle.std.proofs.lemmas.Option.{slice_get-get_or}
 use Rattle.std.proofs.lemmas.Result.{err_from_is_err_and}
-use Rattle.history.specs.Edit.{edit_result}
-use Rattle.history.specs.Edit.{edit_call}
+use Rattle.yard_rules.specs.Edit.{edit_result}
+use Rattle.yard_rules.specs.Edit.{edit_call}
 use Rattle.yard.proofs.Clauses.{made_from, lawful_from, any}
 use Rattle.yard.proofs.Edited.{edit_barred, edit_denied, edit_done}
 use Rattle.yard.proofs.editing.edit.Goals as goal

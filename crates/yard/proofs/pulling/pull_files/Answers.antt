@@ -1,7 +1,7 @@
 use Rattle.std.proofs.Common.{◌≡◌, ◌*◌, ◌≤◌, sym, refl, ap, ◌∙◌, ⊎_elim, arith, rules}
 use Rattle.clock.specs.declared.verdicts.Verdict.TheVariants.{Stale, Conflict}
-use Rattle.history.specs.Tables.{judged, reported, is_stale, is_conflict}
-use Rattle.history.proofs.Lookups.{place_within}
+use Rattle.yard_rules.specs.Tables.{judged, reported, is_stale, is_conflict}
+use Rattle.yard_rules.proofs.Lookups.{place_within}
 use Rattle.yard.proofs.Verdicts.{told_more, told_length, told_all, reported-none, counts_told, told_stale, told_conflict}
 use Rattle.yard.proofs.Taken.{taking, turn, taking-none, taking_all, taking_more, taking_verdict, taken_clocks}
 use Rattle.yard.proofs.pulling.pull_files.Goals as goal

@@ -1,5 +1,5 @@
 use Rattle.std.proofs.Common.{◌≡◌, ◌+◌, ◌*◌, ◌≤◌, length}
-use Rattle.history.specs.Tables.{judged, reported}
+use Rattle.yard_rules.specs.Tables.{judged, reported}
 use Rattle.yard.specs.Entries.{Clocks}
 use Rattle.yard.proofs.Taken.{taking}
 use Rattle.yard.proofs.pulling.pull_files.Given as goal

@@ -1,7 +1,7 @@
 use Rattle.std.proofs.Common.{◌≡◌, ℕ, ◌+◌, ◌*◌, ◌&&◌, Bool, true, false, cond, sym, refl, ap, ◌∙◌, ⊎_elim, arith, rules}
 use Rattle.clock.specs.declared.verdicts.Verdict.TheVariants.{Equal, Stale, Ahead, Conflict}
-use Rattle.history.specs.Tables.{judged, reported, count, is_equal, is_stale, is_ahead, is_conflict}
-use Rattle.history.specs.Report.{twins}
+use Rattle.yard_rules.specs.Tables.{judged, reported, count, is_equal, is_stale, is_ahead, is_conflict}
+use Rattle.yard_rules.specs.Report.{twins}
 use Rattle.yard.proofs.Rows.{all_left, pair_of, none_left}
 use Rattle.yard.proofs.Verdicts.{is_not_conflict, told_more, told_length, told_all, reported-none, counts_told, told_equal, told_stale, told_ahead, told_conflict}
 use Rattle.yard.proofs.Reported.{twins_more, twin_at}

@@ -1,6 +1,6 @@
 use Rattle.std.proofs.Common.{◌≡◌, ◌*◌, ◌≤◌, ◌&&◌, length}
-use Rattle.history.specs.Tables.{judged, reported, count, is_conflict}
-use Rattle.history.specs.Report.{twins}
+use Rattle.yard_rules.specs.Tables.{judged, reported, count, is_conflict}
+use Rattle.yard_rules.specs.Report.{twins}
 use Rattle.yard.proofs.Rows.{left_of}
 use Rattle.yard.proofs.reporting.report_files.Given as goal
 

@@ -1,8 +1,8 @@
 use Rattle.std.proofs.Common.{◌≡◌, ℕ, ◌*◌, Some, Err, Option, sym, ap, ◌∙◌, ⊎_elim, arith, rules, below_more}
 use Rattle.clock.specs.declared.causes.Cause.TheVariants.{InConflict}
 use Rattle.clock.specs.declared.verdicts.Verdict.TheVariants.{Conflict}
-use Rattle.history.specs.Tables.{judged, is_conflict}
-use Rattle.history.specs.Checks.{fault, conflict_in}
+use Rattle.yard_rules.specs.Tables.{judged, is_conflict}
+use Rattle.yard_rules.specs.Checks.{fault, conflict_in}
 use Rattle.yard.specs.Passing.{passing}
 use Rattle.yard.proofs.Rows.{pair_of, none_left}
 use Rattle.yard.proofs.Verdicts.{is_not_conflict}

@@ -1,5 +1,5 @@
 use Rattle.std.proofs.Common.{◌≡◌, ℕ, ◌*◌, ◌<◌, false}
-use Rattle.history.specs.Tables.{judged, is_conflict}
+use Rattle.yard_rules.specs.Tables.{judged, is_conflict}
 use Rattle.yard.proofs.Rows.{left_of}
 use Rattle.yard.proofs.retiring.check_calm.Given as goal
 

@@ -1,8 +1,8 @@
 use Rattle.std.proofs.Common.{get_or, rules, Err, ap, ◌∙◌}
 use Rattle.std.proofs.lemmas.Option.{slice_get-get_or}
 use Rattle.std.proofs.lemmas.Result.{err_from_is_err_and}
-use Rattle.history.specs.Settle.{settle_result}
-use Rattle.history.specs.Settle.{settle_call}
+use Rattle.yard_rules.specs.Settle.{settle_result}
+use Rattle.yard_rules.specs.Settle.{settle_call}
 use Rattle.yard.proofs.Clauses.{made_from, lawful_from, any}
 use Rattle.yard.proofs.Settled.{settle_barred, conflict_denied, join_denied, joined_made, settle_denied, settle_done}
 use Rattle.yard.proofs.settling.settle.Goals as goal

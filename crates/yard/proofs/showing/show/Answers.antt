@@ -1,6 +1,6 @@
 use Rattle.std.proofs.Common.{[], refl}
-use Rattle.history.specs.Checks.{left}
-use Rattle.history.specs.Show.{show_result, show_call}
+use Rattle.yard_rules.specs.Checks.{outcome}
+use Rattle.yard_rules.specs.Show.{show_result, show_call}
 use Rattle.yard.proofs.Clauses.{clauses}
 use Rattle.yard.proofs.showing.show.Goals as goal
 
@@ -10,5 +10,5 @@ returns g c =
     let bs = c.args.berths.now in
     let cs = c.args.copies.now in
     let k = clauses m g.met.C.Clock.sound (show_call (g.K.Card.sizes c.args.card.now) c.args.a c.args.f) bs cs (λ s. show_result m s bs cs c.args.a c.args.f)
-    (left c.show_copy.result bs cs []) c.sizes.result (g.K.Card.sizes c.args.card.now) c.sizes.ensures c.show_copy.ensures (λ alike. refl) in
+    (outcome c.show_sized.result bs cs []) c.sizes.result (g.K.Card.sizes c.args.card.now) c.sizes.ensures c.show_sized.ensures (λ alike. refl) in
     record { result = k.result; history = k.history }

@@ -1,5 +1,5 @@
 use Rattle.std.proofs.Common.{◌≡◌, ◌+◌, ◌*◌, ◌++◌, ◌∷◌, [], length, sym, refl, ap, ◌∙◌, arith, length-append}
-use Rattle.history.proofs.Lookups.{place_within}
+use Rattle.yard_rules.proofs.Lookups.{place_within}
 use Rattle.yard.proofs.Taken.{taking, turn, taking-none, taking_more, taken_clocks}
 use Rattle.yard.proofs.taking.take_files.Goals as goal
 

@@ -1,5 +1,5 @@
 use Rattle.std.proofs.Common.{subst}
-use Rattle.history.specs.Tables.{Made}
+use Rattle.yard_rules.specs.Tables.{Made}
 use Rattle.season.specs.Held.{Held}
 use Rattle.season.proofs.Calls.{well_made}
 use Rattle.season.proofs.seasons.Season.law.Goals as goal

@@ -1,8 +1,8 @@
 use Rattle.std.proofs.Common.{subst}
-use Rattle.history.specs.declared.calls.Call.TheVariants.{Reads}
-use Rattle.history.specs.Page.{asked}
-use Rattle.history.specs.Calls.{leaves}
-use Rattle.history.specs.Law.{LawfulCall}
+use Rattle.yard_rules.specs.declared.calls.Call.TheVariants.{Reads}
+use Rattle.yard_rules.specs.Page.{asked}
+use Rattle.yard_rules.specs.Calls.{leaves}
+use Rattle.yard_rules.specs.Law.{LawfulCall}
 use Rattle.season.specs.Held.{Held}
 use Rattle.season.specs.Replays.{LawfulIn}
 use Rattle.season.proofs.Verdicts.{moved, lawful_in}

@@ -1,7 +1,7 @@
 use Rattle.std.proofs.Common.{rules, ◌≡◌, length, []}
-use Rattle.history.specs.Checks.{left}
-use Rattle.history.specs.Fork.{fork_call}
-use Rattle.history.specs.Calls.{leaves}
+use Rattle.yard_rules.specs.Checks.{outcome}
+use Rattle.yard_rules.specs.Fork.{fork_call}
+use Rattle.yard_rules.specs.Calls.{leaves}
 use Rattle.season.proofs.Calls.{both_led}
 use Rattle.season.proofs.writing.Season+OpenCard+C+P.fork.Goals as goal
 
@@ -11,7 +11,7 @@ invariant_of-self g c =
     let same = g.P.Payload.same in
     let s = c.self.inside in
     let call = fork_call s.card c.args.a c.args.b in
-    let l = left c.fork.result c.fork.new.berths c.fork.new.copies [] in
+    let l = outcome c.fork.result c.fork.new.berths c.fork.new.copies [] in
     let e : l ≡ leaves m same call s.berths.items s.copies.items = search rules in
     let berths : length c.fork.new.berths ≡ s.berths.len = search rules in
     let copies : length c.fork.new.copies ≡ s.copies.len = search rules in

@@ -1,7 +1,7 @@
 use Rattle.std.proofs.Common.{rules, ◌≡◌, length, []}
-use Rattle.history.specs.Checks.{left}
-use Rattle.history.specs.Retire.{retire_call}
-use Rattle.history.specs.Calls.{leaves}
+use Rattle.yard_rules.specs.Checks.{outcome}
+use Rattle.yard_rules.specs.Retire.{retire_call}
+use Rattle.yard_rules.specs.Calls.{leaves}
 use Rattle.season.proofs.Calls.{both_led}
 use Rattle.season.proofs.writing.Season+OpenCard+C+P.retire.Goals as goal
 
@@ -11,7 +11,7 @@ invariant_of-self g c =
     let same = g.P.Payload.same in
     let s = c.self.inside in
     let call = retire_call s.card c.args.a c.args.b in
-    let l = left c.retire.result c.retire.new.berths c.retire.new.copies [] in
+    let l = outcome c.retire.result c.retire.new.berths c.retire.new.copies [] in
     let e : l ≡ leaves m same call s.berths.items s.copies.items = search rules in
     let berths : length c.retire.new.berths ≡ s.berths.len = search rules in
     let copies : length c.retire.new.copies ≡ s.copies.len = search rules in

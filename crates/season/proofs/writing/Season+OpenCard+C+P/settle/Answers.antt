@@ -1,7 +1,7 @@
 use Rattle.std.proofs.Common.{rules, ◌≡◌, length, [], refl}
-use Rattle.history.specs.Checks.{left}
-use Rattle.history.specs.Settle.{settle_call}
-use Rattle.history.specs.Calls.{leaves}
+use Rattle.yard_rules.specs.Checks.{outcome}
+use Rattle.yard_rules.specs.Settle.{settle_call}
+use Rattle.yard_rules.specs.Calls.{leaves}
 use Rattle.season.proofs.Calls.{copies_led}
 use Rattle.season.proofs.writing.Season+OpenCard+C+P.settle.Goals as goal
 
@@ -11,7 +11,7 @@ invariant_of-self g c =
     let same = g.P.Payload.same in
     let s = c.self.inside in
     let call = settle_call s.card c.args.a c.args.b c.args.f c.args.payload in
-    let l = left c.settle.result s.berths.items c.settle.new.copies [] in
+    let l = outcome c.settle.result s.berths.items c.settle.new.copies [] in
     let e : l ≡ leaves m same call s.berths.items s.copies.items = search rules in
     let copies : length c.settle.new.copies ≡ s.copies.len = search rules in
     copies_led m same s.berths s.copies call l e c.self.invariant refl copies

@@ -1,11 +1,11 @@
 use Rattle.std.proofs.Common.{rules, ◌≡◌, length, subst, ◌∙◌}
 use Rattle.std.specs.Vec.{with_items}
 use Rattle.std.proofs.lemmas.List.{with_items_is}
-use Rattle.history.specs.declared.calls.Call.TheVariants.{Writes}
-use Rattle.history.specs.Checks.{left}
-use Rattle.history.specs.Page.{asked}
-use Rattle.history.specs.Calls.{leaves, said}
-use Rattle.history.specs.Law.{LawfulCall}
+use Rattle.yard_rules.specs.declared.calls.Call.TheVariants.{Writes}
+use Rattle.yard_rules.specs.Checks.{outcome}
+use Rattle.yard_rules.specs.Page.{asked}
+use Rattle.yard_rules.specs.Calls.{leaves, said}
+use Rattle.yard_rules.specs.Law.{LawfulCall}
 use Rattle.season.specs.Held.{Held, said_in}
 use Rattle.season.specs.Replays.{LawfulIn}
 use Rattle.season.proofs.Calls.{said_led}
@@ -18,7 +18,7 @@ invariant_of-self g c =
     let same = g.P.Payload.same in
     let s = c.self.inside in
     let q = asked s.card (Writes c.args.call) c.args.bytes.now in
-    let k = left c.write.result c.write.new.berths c.write.new.copies c.write.new.bytes in
+    let k = outcome c.write.result c.write.new.berths c.write.new.copies c.write.new.bytes in
     let e : k ≡ said m same q s.berths.items s.copies.items = search rules in
     let berths : length c.write.new.berths ≡ s.berths.len = search rules in
     let copies : length c.write.new.copies ≡ s.copies.len = search rules in
@@ -39,11 +39,11 @@ returns-clause-result g c =
     let same = g.P.Payload.same in
     let s = c.self.inside in
     let q = asked s.card (Writes c.args.call) c.args.bytes.now in
-    let k = left c.write.result c.write.new.berths c.write.new.copies c.write.new.bytes in
+    let k = outcome c.write.result c.write.new.berths c.write.new.copies c.write.new.bytes in
     let e : k ≡ said m same q s.berths.items s.copies.items = search rules in
     let berths : length c.write.new.berths ≡ s.berths.len = search rules in
     let copies : length c.write.new.copies ≡ s.copies.len = search rules in
     let bs = with_items_is s.berths c.write.new.berths berths in
     let cs = with_items_is s.copies c.write.new.copies copies in
-    subst (λ (h : Held _ _ _). left c.write.result (with_items s.berths c.write.new.berths).items (with_items s.copies c.write.new.copies).items c.write.new.bytes ≡ said_in m same h (asked h.card (Writes c.args.call) c.args.bytes.now)) c.self.view_is
-    ((λ j. left c.write.result (bs j) (cs j) c.write.new.bytes) ∙ e)
+    subst (λ (h : Held _ _ _). outcome c.write.result (with_items s.berths c.write.new.berths).items (with_items s.copies c.write.new.copies).items c.write.new.bytes ≡ said_in m same h (asked h.card (Writes c.args.call) c.args.bytes.now)) c.self.view_is
+    ((λ j. outcome c.write.result (bs j) (cs j) c.write.new.bytes) ∙ e)
