@@ -1,8 +1,7 @@
 use clock::Fault;
-use std::fmt;
 
 /// A refusal by its number, with its berth and file.
-#[derive(Clone, Copy, PartialEq, Eq)]
+#[derive(Clone, Copy, PartialEq, Eq, Debug)]
 pub struct Refusal {
     pub cause: u8,
     pub berth: Option<usize>,
@@ -10,7 +9,7 @@ pub struct Refusal {
 }
 
 /// What a call answers, in numbers and words of the model's own.
-#[derive(PartialEq, Eq, Drop)]
+#[derive(PartialEq, Eq, Debug, Drop)]
 pub enum Answer {
     /// Accepted, with nothing to say.
     Done,
@@ -36,23 +35,5 @@ impl Answer {
 impl From<Fault> for Answer {
     fn from(fault: Fault) -> Answer {
         Answer::refused(fault.cause.into(), fault.berth, fault.file)
-    }
-}
-
-/// In few letters, for the message of a difference.
-impl fmt::Display for Answer {
-    fn fmt<W: fmt::Write>(&self, f: &mut fmt::Formatter<W>) -> fmt::Result {
-        match self {
-            Answer::Done => f.write_str("done"),
-            Answer::Verdict(verdict) => write!(f, "verdict {verdict}"),
-            Answer::Counts(equal, stale, ahead, conflicts, twins) => {
-                write!(f, "{equal} {stale} {ahead} {conflicts} twins {twins}")
-            }
-            Answer::Taken(taken, conflicts) => write!(f, "taken {taken} conflicts {conflicts}"),
-            Answer::Shown(pen, clock) => write!(f, "{pen} {clock}"),
-            Answer::Refused(Refusal { cause, berth, file }) => {
-                write!(f, "refused {cause} {berth:?} {file:?}")
-            }
-        }
     }
 }

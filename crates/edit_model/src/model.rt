@@ -3,8 +3,8 @@ use crate::edit_sets::EditSet;
 use crate::kinds::Kind;
 use crate::needs::Needs;
 use anyhow::{Context, Result};
-use yard_rules::Call;
 use std::alloc::{AllocError, Global};
+use yard_rules::Call;
 
 /// What the model keeps of a copy: the edits behind it, the number of its
 /// payload, and its clock.

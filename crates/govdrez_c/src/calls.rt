@@ -1,5 +1,5 @@
-use yard_rules::{Call, Reading, Writing};
 use payload::Ticket;
+use yard_rules::{Call, Reading, Writing};
 
 // The calls of a yard, by the number that a `YardCall` gives.
 const FORK: u32 = 0;

@@ -1,6 +1,6 @@
 use clock::Fault;
-use yard_rules::Answer;
 use std::fmt;
+use yard_rules::Answer;
 
 /// What a call of a yard answers, or its refusal. No call here shows a pen and a
 /// clock: without them an outcome is small, and a season of trees loses no time.
@@ -16,11 +16,10 @@ impl Outcome {
         Outcome { answer }
     }
 
-    /// The yard's answer; of one that shows, that it was done.
+    /// The yard's answer; of a call that is not made here, that it was done.
     #[inline]
     pub(crate) fn of<Q: Copy, C: Copy>(answer: Result<Answer<Q, C>, Fault>) -> Outcome {
         let answer = answer.map(|answer| match answer {
-            Answer::Done | Answer::Shown { .. } => Answer::Done,
             Answer::Judged(verdict) => Answer::Judged(verdict),
             Answer::Pulled { taken, conflicts } => Answer::Pulled { taken, conflicts },
             Answer::Reported {
@@ -36,6 +35,7 @@ impl Outcome {
                 conflicts,
                 twins,
             },
+            _ => Answer::Done,
         });
         Outcome { answer }
     }
@@ -43,7 +43,6 @@ impl Outcome {
     /// A number that depends on the whole answer, for the sum over a run.
     pub(crate) fn number(&self) -> u64 {
         match &self.answer {
-            Ok(Answer::Done | Answer::Shown { .. }) => 1,
             Ok(Answer::Judged(verdict)) => 10 + u8::from(*verdict) as u64,
             Ok(Answer::Pulled { taken, conflicts }) => sum([*taken, *conflicts, 0, 0, 0]),
             Ok(
@@ -55,6 +54,7 @@ impl Outcome {
                     twins,
                 },
             ) => sum([*equal, *stale, *ahead, *conflicts, *twins]),
+            Ok(_) => 1,
             Err(fault) => 100 + u8::from(fault.cause) as u64,
         }
     }
@@ -73,7 +73,6 @@ fn sum(counts: [usize; 5]) -> u64 {
 impl fmt::Display for Outcome {
     fn fmt<W: fmt::Write>(&self, f: &mut fmt::Formatter<W>) -> fmt::Result {
         match &self.answer {
-            Ok(Answer::Done | Answer::Shown { .. }) => f.write_str("done"),
             Ok(Answer::Judged(verdict)) => write!(f, "{verdict}"),
             Ok(Answer::Pulled { taken, conflicts }) => {
                 write!(f, "taken {taken} conflicts {conflicts}")
@@ -87,6 +86,7 @@ impl fmt::Display for Outcome {
                     twins,
                 },
             ) => write!(f, "report {equal} {stale} {ahead} {conflicts} {twins}"),
+            Ok(_) => f.write_str("done"),
             Err(fault) => write!(f, "{fault}"),
         }
     }

@@ -4,12 +4,12 @@ ghost use Rattle.yard_rules.specs.Tables.{Made};
 use crate::calls::{YardCall, ticket};
 use crate::outcomes::Outcome;
 use clock::{Clock, Fault};
-use yard_rules::{Berth, Call, Record};
 use payload::Ticket;
 use std::fmt::Display;
 use std::io;
 use std::io::Write;
 use yard::OpenCard;
+use yard_rules::{Berth, Call, Record};
 
 /// How many berths and files a season has.
 pub(crate) const BERTHS: usize = 16;

@@ -1,9 +1,9 @@
 use crate::calls::prints;
 use clock::Verdict;
-use yard_rules::{Answer, Sizes};
 use season_log::Reply;
 use std::process::Abort;
 use std::test::Fail;
+use yard_rules::{Answer, Sizes};
 
 // Each form of answer, as a log prints it.
 #[test]

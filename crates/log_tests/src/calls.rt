@@ -1,10 +1,10 @@
 use crate::DIGEST;
-use yard_rules::{Call, Reading, Writing};
 use payload::{Ticket, TicketError, Valve};
 use season_log::{Kind, Mistake, Opening, PayloadError, PayloadKind, read_call, read_payload};
 use std::fmt::Display;
 use std::process::Abort;
 use std::test::Fail;
+use yard_rules::{Call, Reading, Writing};
 
 #[test]
 fn reading_calls_are_read(rt: HostRuntime) {

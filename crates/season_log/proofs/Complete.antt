@@ -9,9 +9,9 @@ use Rattle.season_log.specs.declared.mistakes.Mistake.{Mistake}
 use Rattle.season_log.specs.declared.mistakes.Mistake.TheVariants.{UnknownCall, WordCount, NotNumber, NotPayload}
 use Rattle.season_log.specs.declared.mistakes.PayloadError.{PayloadError}
 use Rattle.season_log.specs.Words.{Word, Numbers, IsNoPayload}
-use Rattle.season_log.specs.Rows.{Row, row, count, word_count, Shape, IsCall}
+use Rattle.season_log.specs.Rows.{Row, row, count, word_count, Shape, IsCall, calls}
 use Rattle.season_log.specs.Calls.{Payload, Arguments, Spells, IsExact, Complete, FormMistake, Unread}
-use Rattle.season_log.proofs.Rows.{calls, is_named}
+use Rattle.season_log.proofs.Rows.{is_named}
 use Rattle.season_log.proofs.Unread.{no_mistake, slice_get-drop}
 
 -- calls of one name have as many numbers and payloads

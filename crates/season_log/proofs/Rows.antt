@@ -1,29 +1,11 @@
--- A call of each name; and a form that is found by its name is that of a call of this name.
+-- A form that is found by its name is that of a call of this name.
 use Rattle.std.proofs.Common.{◌≡◌, ℕ, true, false, cond, ◌||◌, List, [], ◌∷◌, Some, Option, IfSome, find, refl, sym, subst}
 use Rattle.std.specs.List.{list_any}
 use Rattle.std.specs.Str.{bytes_eq}
 use Rattle.std.proofs.lemmas.Slice.Eq.{bytes_eq-Decides}
-use Rattle.yard_rules.specs.declared.calls.Call.TheVariants.{Reads, Writes, Seal}
-use Rattle.yard_rules.specs.declared.calls.Reading.TheVariants.{Judge, Report, Show}
-use Rattle.yard_rules.specs.declared.calls.Writing.TheVariants.{Fork, Edit, Pull, Settle, Retire, Drop}
 use Rattle.season_log.specs.declared.forms.Form.{Form}
 use Rattle.season_log.specs.Rows.{row, Shape, IsCall}
 use Rattle.season_log.specs.Forms.{FormOf, AreForms}
-
--- in the order of the table
-abbrev pub calls : List Shape
-calls =
-    Writes (Fork 0 0)
-    ∷ Writes (Edit 0 0 tt)
-    ∷ Reads (Judge 0 0 0)
-    ∷ Reads (Report 0 0)
-    ∷ Writes (Pull 0 0)
-    ∷ Writes (Settle 0 0 0 tt)
-    ∷ Writes (Retire 0 0)
-    ∷ Writes (Drop 0)
-    ∷ Seal
-    ∷ Reads (Show 0 0)
-    ∷ []
 
 pub is_named : (name : List ℕ) (cs : List Shape) → list_any (λ c. bytes_eq (row c).name name) cs ≡ true → IsCall name
 is_named name [] e = absurd (cc e)

@@ -11,6 +11,7 @@ use Rattle.season_log.specs.declared.mistakes.Mistake.{Mistake}
 use Rattle.season_log.specs.declared.mistakes.Mistake.TheVariants.{UnknownCall, WordCount, UnknownKind, UnknownPayload, NotNumber, NotPayload, NoYard, Sealed}
 use Rattle.season_log.specs.declared.mistakes.PayloadError.{PayloadError}
 use Rattle.season_log.specs.declared.mistakes.PayloadError.TheVariants.{Valve, Ticket}
+use Rattle.season_log.specs.Rows.{reading_text}
 
 abbrev pub payload_error_text : PayloadError → List ℕ
 payload_error_text (Valve UnknownWord) = codes "no valve: write shut, open, part:PERCENT or flow:LITRES"
@@ -29,4 +30,5 @@ mistake_text (NotNumber word number.NotNumber) = quoted word.now (codes " should
 mistake_text (NotNumber word number.OutOfRange) = quoted word.now (codes " is too large: it does not fit 64 bits")
 mistake_text (NotPayload word error) = quoted word.now (codes " is " ++ payload_error_text error)
 mistake_text (NoYard name) = quoted name.now (codes " needs a yard: no open stands before it, or that was refused")
-mistake_text (Sealed name) = quoted name.now (codes " after seal: a sealed yard answers only judge, report and show")
+mistake_text (Sealed name) =
+    quoted name.now (codes " after seal: a sealed yard answers only " ++ reading_text)

@@ -5,6 +5,8 @@
 -- row call       the row of a call but `open`
 -- count p        how many payloads there are, one or none
 -- word_count r   how many words come after the name
+-- calls          a call of each name
+-- reading_text   the calls that a sealed yard takes, as a user is told them
 -- Shape          a call with a blank for its payload: what calls of one name share
 -- IsCall name    some call but `open` has the name
 -- IsNoCall name  none has it
@@ -47,6 +49,25 @@ module _ {P : Type 0} where
 
 abbrev pub Shape : Type 0
 Shape = Call (Unit {0})
+
+-- the calls that a sealed yard takes, as a user is told them
+abbrev pub reading_text : List ℕ
+reading_text = codes "judge, report and show"
+
+-- a call of each name, in the order of the table of forms
+abbrev pub calls : List Shape
+calls =
+    Writes (Fork 0 0)
+    ∷ Writes (Edit 0 0 tt)
+    ∷ Reads (Judge 0 0 0)
+    ∷ Reads (Report 0 0)
+    ∷ Writes (Pull 0 0)
+    ∷ Writes (Settle 0 0 0 tt)
+    ∷ Writes (Retire 0 0)
+    ∷ Writes (Drop 0)
+    ∷ Seal
+    ∷ Reads (Show 0 0)
+    ∷ []
 
 abbrev pub IsCall : List ℕ → Type 0
 IsCall name = (call : Shape) × ((row call).name ≡ name)

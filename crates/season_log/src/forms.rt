@@ -28,6 +28,9 @@ impl Form {
     }
 }
 
+/// The calls that a sealed yard takes, as a user is told them.
+pub(crate) const READING: &str = "judge, report and show";
+
 /// How each call but `open` is written.
 pub const FORMS: [Form; 10] = [
     Form {

@@ -2,6 +2,7 @@ ghost use Rattle.std.specs.Prelude.{◌≡◌, Some};
 ghost use Rattle.season_log.specs.declared.mistakes.PayloadError.TheVariants.{Valve, Ticket};
 ghost use Rattle.season_log.specs.Mistakes.{mistake_text, payload_error_text};
 
+use crate::forms::READING;
 use payload::{DecimalError, TicketError, ValveError};
 use std::error::Error;
 use std::fmt;
@@ -56,7 +57,7 @@ impl fmt::Display for Mistake<'_> {
             ),
             Mistake::Sealed(name) => write!(
                 f,
-                "'{name}' after seal: a sealed yard answers only judge, report and show"
+                "'{name}' after seal: a sealed yard answers only {READING}"
             ),
         }
     }

@@ -43,7 +43,7 @@ fn try_opening<C: Clock, P: Sample>(
             let came = Answer::from(fault);
             ensure!(
                 !fits && came == Answer::refused(1, None, None),
-                "came {came}"
+                "came {came:?}"
             );
             return Ok(());
         }

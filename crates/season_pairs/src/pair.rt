@@ -6,10 +6,10 @@ use crate::tally::Tally;
 use anyhow::{Context, Result, ensure};
 use clock::Clock;
 use edit_model::{Answer, Kind, Model, Needs};
-use yard_rules::{Call, Reading};
 use std::alloc::Global;
 use std::fmt::Display;
 use yard::{Card, OpenCard};
+use yard_rules::{Call, Reading};
 
 /// A yard and the model beside it. A difference between them is an error that
 /// says what was expected and what came.
@@ -71,7 +71,7 @@ where
     ) -> Result<Answer> {
         let mut wanted = vec![in self.heap; byte; bytes.len()]?;
         let expected = self.model.answer::<Samples, P>(call, other, &mut wanted)?;
-        ensure!(came == expected, "expected {expected}, came {came}");
+        ensure!(came == expected, "expected {expected:?}, came {came:?}");
         same_bytes(&wanted, bytes)?;
         Ok(came)
     }
@@ -217,7 +217,7 @@ fn same_bytes(expected: &[u8], came: &[u8]) -> Result<()> {
 fn same_word(expected: &String, came: &String) -> Result<()> {
     ensure!(
         came.as_str() == expected.as_str(),
-        "expected {expected}, came {came}"
+        "expected {expected:?}, came {came:?}"
     );
     Ok(())
 }

@@ -10,10 +10,10 @@ use crate::tally::Tally;
 use anyhow::{Context, Result};
 use clock::Clock;
 use edit_model::{Kind, Model};
-use yard_rules::Call;
 use std::alloc::Global;
 use std::fmt::Display;
 use yard::OpenCard;
+use yard_rules::Call;
 
 /// Runs a plan, and prints what it ran.
 pub fn season<C, M, P>(

@@ -3,10 +3,10 @@ ghost use Rattle.yard.specs.Entries.{Pens, Clocks};
 use crate::samples::Sample;
 use anyhow::Result;
 use clock::{Clock, Fault};
-use yard_rules::{Answer, Berth, Reading, Record, State, Writing};
 use std::alloc::Global;
 use std::fmt::Display;
 use yard::{Card, OpenCard, blank_berth, blank_copy, open};
+use yard_rules::{Answer, Berth, Reading, Record, State, Writing};
 
 /// The tables of a yard, whose pens and clocks are all well made.
 #[derive(Drop)]

@@ -42,6 +42,7 @@ pub fn read<K: Card, C: Clock, P: Payload>(
     read_call(card, berths, copies, bytes, call)
 }
 
+#[tactic(auto, using(crate::proofs::Carried::told_lent))]
 fn read_call<K: Card, C: Clock, P: Payload>(
     card: &K,
     berths: &[Berth<C::Pen>],

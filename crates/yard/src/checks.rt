@@ -55,7 +55,7 @@ pub fn check_two(a: usize, b: usize) -> Result<(), Fault>
 }
 
 // Whether there is such a berth and it is in use.
-fn works<Q>(berths: &[Berth<Q>], a: usize) -> bool
+pub(crate) fn works<Q>(berths: &[Berth<Q>], a: usize) -> bool
     ensures { result ≡ working berths.now a }
 {
     berths

@@ -1,5 +1,5 @@
 use Rattle.std.proofs.Common.{rules}
-use Rattle.season_log.proofs.Rows.{calls}
+use Rattle.season_log.specs.Rows.{calls}
 use Rattle.season_log.proofs.forms.form_of.Goals as goal
 
 pub returns-clause-found : goal.returns-clause-found
