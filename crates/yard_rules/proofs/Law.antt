@@ -58,7 +58,7 @@ lawful_call m sound alike q bs cs payloads h r =
     let p = points m sound alike payloads (traced bs cs h) g in record {
       before = p;
       lawful = p.lawful q;
-      points = points m sound alike payloads (called m alike q (traced bs cs h)) (leaves_good m sound alike payloads q (traced bs cs h) g);
+      afterwards = points m sound alike payloads (called m alike q (traced bs cs h)) (leaves_good m sound alike payloads q (traced bs cs h) g);
     }
 
 pub lawful_open : {Pen C P : Type 0} (m : Meaning Pen C) (sound : Sound m) (bs : List (Berth Pen)) (cs : List (Record C P)) (payloads : List P) → LawfulOpen m payloads (open_result m bs cs payloads)

@@ -2,9 +2,9 @@
 --
 -- Every verdict compares the accepted edits behind two copies of one file just before the call that
 -- gives or uses it: that is `EveryVerdict`, which stands on each call's contract of the yard as the
--- call was handed it (`Kept.before.every`), refused calls included.
+-- call was handed it (`CallLaw.before.every`), refused calls included.
 --
--- TracedYard             the tables and the history
+-- TracedYard       the tables and the history
 -- called           the yard after a call
 -- Reached          the yards that a list of calls leads to from what an accepted open left, with
 --                  any cards, berths, files, payloads and buffers
@@ -14,12 +14,12 @@
 -- Lawful           of one call: its page's `gives` and `rests_on`; every edit behind some copy just
 --                  before is behind some copy still, unless the call is accepted and of a kind that
 --                  loses edits, as drop alone; 12 never comes
--- YardLaw           of one yard: its tables are well made, the berths in use have the copies, every
+-- YardLaw          of one yard: its tables are well made, the berths in use have the copies, every
 --                  verdict compares, copies judged equal hold the same payload, pens of different
 --                  berths have no mark in common, and every further call is lawful
--- LawOf            the points hold of every yard that calls lead to
--- CallLaw             of one call: the points of the yard as it was handed in, what the call does, and
---                  the points of the yard that it leaves
+-- LawOf            that of every yard that calls lead to
+-- CallLaw          of one call: the law of the yard as it was handed in, what the call does, and the
+--                  law of the yard that it leaves
 -- LawfulCall       that, whatever calls led to the tables as handed in
 -- LawfulAt         the same, whatever test says that two payloads are alike: for a call that does
 --                  not ask it
@@ -141,7 +141,7 @@ pub record CallLaw {Pen C P : Type 0} (m : Meaning Pen C) (alike : P → P → B
     (y : TracedYard Pen C P) (q : Asked P) (outcome : Outcome Pen C P (Value m q)) : Type 0 where
   pub before : YardLaw m alike payloads y
   pub lawful : Lawful payloads y.history (page_of m q) outcome
-  pub points : YardLaw m alike payloads (traced_after (page_of m q) outcome y.history)
+  pub afterwards : YardLaw m alike payloads (traced_after (page_of m q) outcome y.history)
 
 module _ {Pen C P : Type 0} (m : Meaning Pen C) where
   abbrev pub LawfulCall : (P → P → Bool) → (q : Asked P) → List (Berth Pen) → List (Record C P) →
