@@ -129,7 +129,7 @@ where
             let came = told(self.heap, self.tables.read(card, call, &mut []))?;
             ensure!(
                 came == Answer::Verdict(expected),
-                "{a} against {b}, file {f}: expected verdict {expected}, came {came}"
+                "{a} against {b}, file {f}: expected verdict {expected:?}, came {came:?}"
             );
             tally.count_verdict(expected, 1);
         }
@@ -143,7 +143,7 @@ where
         let marks = self.model.marks_verdict(a, b, f)?;
         ensure!(
             marks == expected,
-            "{a} against {b}, file {f}: {expected} by edits, {marks} by marks"
+            "{a} against {b}, file {f}: {expected:?} by edits, {marks} by marks"
         );
         let alike = self.model.same_payload(a, b, f)?;
         ensure!(
