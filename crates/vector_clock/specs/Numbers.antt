@@ -1,6 +1,6 @@
 -- How many indices pass a test, over any number of indices.
-use Rattle.std.specs.Prelude.{◌≡◌, ℕ, zero, suc, ◌+◌, ◌<◌, ◌≤◌, Bool, true, false, cond, ◌==◌, refl}
-use Rattle.std.proofs.Common.{sym, ◌∙◌, ⊎_elim, add-one, arith}
+use Rattle.std.specs.Prelude.{◌≡◌, ℕ, zero, suc, ◌+◌, ◌<◌, ◌≤◌, Bool, true, false, cond, ◌==◌, nat_eq, refl}
+use Rattle.std.proofs.Common.{sym, ap, ◌∙◌, ⊎_elim, add-one, arith}
 use Rattle.std.proofs.lemmas.Bool.{cases_Bool, cases_eq, cases_order, eq-eqb, ne_eqb, eqb-true, eqb-false, and_from, and_left, and_right}
 use Rattle.vector_clock.specs.Counting.{how_many, none, lowest}
 
@@ -37,6 +37,19 @@ some_passes t k n h e = ne_eqb (how_many t n) 0 (λ z. omega (arith, passed t k 
 
 pub none_passes : (t : ℕ → Bool) (k n : ℕ) → k < n → none t n ≡ true → t k ≡ false
 none_passes t k n h z = ⊎_elim (λ e. absurd (omega (arith, passed t k n h e, eqb-true (how_many t n) 0 z))) (λ e. e) (cases_Bool (t k))
+
+pub none_more_yes : (t : ℕ → Bool) (i : ℕ) → t i ≡ true → none t (i + 1) ≡ false
+none_more_yes t i h = ne_eqb (how_many t (i + 1)) 0 (λ z. omega (arith, more_yes t i h))
+
+pub none_more_no : (t : ℕ → Bool) (i : ℕ) → t i ≡ false → none t (i + 1) ≡ none t i
+none_more_no t i h = ap (λ m. nat_eq m 0) (more_no t i h)
+
+-- a flag that is lowered at the first index that passes
+pub flag_lowered : (t : ℕ → Bool) (i : ℕ) (r : Bool) → t i ≡ true → r ≡ false → r ≡ none t (i + 1)
+flag_lowered t i r h e = e ∙ sym (none_more_yes t i h)
+
+pub flag_kept : (t : ℕ → Bool) (i : ℕ) (r s : Bool) → t i ≡ false → r ≡ s → s ≡ none t i → r ≡ none t (i + 1)
+flag_kept t i r s h e f = e ∙ f ∙ sym (none_more_no t i h)
 
 -- where some index passes, there is a lowest
 pub lowest_found : (t : ℕ → Bool) (n : ℕ) → none t n ≡ false → (k : ℕ) × (k < n) × (t k ≡ true) × (none t k ≡ true)

@@ -41,7 +41,14 @@ impl<const N: usize> Names<N> {
     pub fn size(&self) -> usize
         ensures { result ≡ size_of self.now }
     {
-        self.held.iter().filter(|held| **held).count()
+        // No `filter` with `count`, which tests one name after the other: here all are counted at once.
+        let mut size = 0;
+        for held in &self.held {
+            if *held {
+                size += 1;
+            }
+        }
+        size
     }
 
     /// Parts a pen in two: the lowest half of its names, rounded up, and the
