@@ -1,5 +1,5 @@
 -- Where fill changes nothing, the cost of growing tells the size of the grown tree: two nodes more for each 1,000.
-use Rattle.std.proofs.Common.{◌≡◌, ℕ, ◌+◌, ◌*◌, ◌/◌, ◌≤◌, true, false, cond, refl, ap, arith}
+use Rattle.std.proofs.Common.{◌≡◌, ℕ, ◌+◌, ◌*◌, ◌/◌, ◌<◌, ◌≤◌, true, false, cond, refl, ap, arith}
 use Rattle.std.proofs.lemmas.Bool.{true≢false}
 use Rattle.tree_rules.specs.Ids.{Id, off, on, pair, is_off, id_depth, NormalId}
 use Rattle.tree_rules.specs.Events.{Event, leaf, node, size, lo, hi}
@@ -32,3 +32,8 @@ splits (pair l r) e d f w =
     chosen (λ t. Splits (pair l r) (cond t (cost l (lo e)) (cost r (hi e)) + 1 + extra e) e (grown_at l r e t)) l r e d
     (λ z. step_up l (pair l r) (cost l (lo e)) e (lo e) (hi e) (grow l (lo e)) (grown_at l r e true) (omega arith) B refl (splits l (lo e) d.2 z S.lower))
     (λ z. step_up r (pair l r) (cost r (hi e)) e (hi e) (lo e) (grow r (hi e)) (grown_at l r e false) (omega arith) (omega arith) (omega arith) (splits r (hi e) d.3 z S.upper))
+
+pub size-from-cost : (i : Id) (e : Event) → NormalId i → is_off i ≡ false → fill i e ≡ e → id_depth i < 1000 → size (grow i e) ≡ size e + 2 * (cost i e / 1000)
+size-from-cost i e d f w h =
+    let S = splits i e d f w in
+    omega (arith, S.2, S.3, S.4)

@@ -55,6 +55,10 @@ normal_some (pair l r) n p = some_side l r n.0 (normal_some l n.2) (normal_some 
     some_side on r n p q = refl
     some_side (pair s t) r n p q = or_left _ _ (p refl)
 
+-- a normal id that is not 0 is 1 at some place
+pub normal-at : (i : Id) (h : ℕ) → NormalId i → id_depth i ≤ h → is_off i ≡ false → (x : ℕ) × (x < 2 ^ h) × (owns i h x ≡ true)
+normal-at i h n d p = let (x, b, o, w) = some_at i h d (normal_some i n p) in (x, b, o)
+
 pub overlap-at : (h : ℕ) (i j : Id) → id_depth i ≤ h → id_depth j ≤ h → overlap i j ≡ true → Shared h i j
 overlap-at h off j d g p = absurd (false≢true p)
 overlap-at h on j d g p = let (x, b, o, w) = some_at j h g p in (x, b, refl, w)

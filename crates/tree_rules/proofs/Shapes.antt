@@ -1,9 +1,13 @@
 -- An id as an event tree: its size, depth, values and normal form; sum is join there; and two normal ids with the same places are one.
-use Rattle.std.proofs.Common.{◌≡◌, ℕ, zero, suc, ◌+◌, ◌-◌, ◌^◌, ◌<◌, ◌≤◌, min, Bool, true, false, cond, eqb, ltb, sym, refl, ap, ◌∙◌, ap₂, arith}
+use Rattle.std.proofs.Common.{◌≡◌, ℕ, zero, suc, ◌+◌, ◌-◌, ◌^◌, ◌<◌, ◌≤◌, min, max, Bool, true, false, cond, ◌||◌, eqb, ltb, sym, refl, ap, ◌∙◌, ap₂, arith}
 use Rattle.tree_rules.specs.Ids.{Id, off, on, pair, id_size, id_depth, is_off, is_on, owns, NormalId}
 use Rattle.tree_rules.specs.Events.{Event, leaf, node, size, depth, value, low, top, twins, Normal}
+use Rattle.tree_rules.specs.Sum.{sum}
+use Rattle.tree_rules.specs.Join.{join}
 use Rattle.tree_rules.specs.Shape.{shape}
 use Rattle.tree_rules.proofs.Canon.{canonical}
+use Rattle.tree_rules.proofs.Joins.{normal-join, depth-join, join-value}
+use Rattle.tree_rules.proofs.IdLaws.{normal-sum, depth-sum, sum_places}
 
 pub size-shape : (i : Id) → size (shape i) ≡ id_size i
 size-shape off = refl
@@ -80,3 +84,21 @@ canonical_id h i j n m d g s =
     shape_injective i j
     (canonical h (shape i) (shape j) (normal-shape i n) (normal-shape j m) (omega (arith, depth-shape i)) (omega (arith, depth-shape j))
     (λ x p. value-shape i h x ∙ ap bit (s x p) ∙ sym (value-shape j h x)))
+
+max_bits : (a b : Bool) → max (0 + bit a) (0 + bit b) ≡ bit (a || b)
+max_bits true true = refl
+max_bits true false = refl
+max_bits false true = refl
+max_bits false false = refl
+
+-- sum is join of the shapes
+pub join-shape : (i j : Id) → NormalId i → NormalId j → join (shape i) (shape j) ≡ shape (sum i j)
+join-shape i j n m =
+    let h : ℕ = max (id_depth i) (id_depth j) in
+    let hi : id_depth i ≤ h = omega arith in
+    let hj : id_depth j ≤ h = omega arith in
+    let di : depth (shape i) ≤ h = omega (arith, depth-shape i) in
+    let dj : depth (shape j) ≤ h = omega (arith, depth-shape j) in
+    canonical h (join (shape i) (shape j)) (shape (sum i j)) (normal-join (shape i) 0 (shape j) 0) (normal-shape (sum i j) (normal-sum i j n m))
+    (omega (arith, depth-join (shape i) 0 (shape j) 0)) (omega (arith, depth-shape (sum i j), depth-sum i j h hi hj))
+    (λ x p. join-value h (shape i) 0 (shape j) 0 di dj x p ∙ rw (value-shape i h x, value-shape j h x) (max_bits (owns i h x) (owns j h x)) ∙ ap bit (sym (sum_places i j h x hi hj)) ∙ sym (value-shape (sum i j) h x))
