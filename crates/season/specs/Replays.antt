@@ -7,9 +7,19 @@
 -- EachBehind m alike h a b bytes      the same of byte f of a buffer, for each file f
 -- LawfulIn m alike h q                the call q is lawful in the season h: of the edits behind its
 --                                     copies, as those calls made them
-use Rattle.std.specs.Prelude.{ℕ, ◌<◌, Bool, List, slice_index}
+-- Tells m alike h c r bytes           of the call c in the season h, answered r, with these bytes
+--                                     in its buffer: where it is accepted, each verdict that it
+--                                     gives compares the edits so; where it gives none, nothing
+use Rattle.std.specs.Prelude.{◌≡◌, ℕ, ◌<◌, Bool, List, Ok, Result, OnOk, slice_index}
+use Rattle.clock.specs.declared.faults.Fault.{Fault}
 use Rattle.clock.specs.declared.verdicts.Verdict.{Verdict}
 use Rattle.clock.specs.Meaning.{Meaning}
+use Rattle.yard_rules.specs.declared.answers.Answer.{Answer}
+use Rattle.yard_rules.specs.declared.answers.Answer.TheVariants.{Judged}
+use Rattle.yard_rules.specs.declared.calls.Call.{Call}
+use Rattle.yard_rules.specs.declared.calls.Call.TheVariants.{Reads, Writes, Seal}
+use Rattle.yard_rules.specs.declared.calls.Reading.TheVariants.{Judge, Report, Show}
+use Rattle.yard_rules.specs.declared.calls.Writing.TheVariants.{Fork, Edit, Pull, Settle, Retire, Drop}
 use Rattle.yard_rules.specs.declared.tables.Berth.{Berth}
 use Rattle.yard_rules.specs.declared.tables.Record.{Record}
 use Rattle.yard_rules.specs.History.{History, Compares, ComparesByte}
@@ -37,3 +47,15 @@ module _ {Pen C P : Type 0} (m : Meaning Pen C) (alike : P → P → Bool) where
     pub record LawfulIn (q : Asked P) : Type 0 where
       pub replayed : Replayed h.berths h.copies
       pub lawful : Lawful replayed.payloads replayed.history (page_of m q) (leaves_in m alike h q)
+
+    abbrev pub Tells : Call P → Result (Answer Pen C) Fault → List ℕ → Type 0
+    Tells (Reads (Judge a b f)) r bytes = (v : Verdict) → r ≡ Ok (Judged v) → ∥ Behind a b f v ∥₁
+    Tells (Reads (Report a b)) r bytes = OnOk r ∥ EachBehind a b bytes ∥₁
+    Tells (Reads (Show a f)) r bytes = Unit
+    Tells (Writes (Fork a b)) r bytes = Unit
+    Tells (Writes (Edit a f p)) r bytes = Unit
+    Tells (Writes (Pull a b)) r bytes = OnOk r ∥ EachBehind b a bytes ∥₁
+    Tells (Writes (Settle a b f p)) r bytes = Unit
+    Tells (Writes (Retire a b)) r bytes = Unit
+    Tells (Writes (Drop a)) r bytes = Unit
+    Tells Seal r bytes = Unit

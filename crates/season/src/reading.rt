@@ -5,7 +5,7 @@ ghost use Rattle.yard_rules.specs.Show.{show_call};
 ghost use Rattle.yard_rules.specs.declared.calls.Call.TheVariants.{Reads};
 ghost use Rattle.yard_rules.specs.Page.{asked};
 ghost use Rattle.season.specs.Held.{outcome_in, leaves_in, said_in};
-ghost use Rattle.season.specs.Replays.{Behind, EachBehind, LawfulIn};
+ghost use Rattle.season.specs.Replays.{Behind, EachBehind, LawfulIn, Tells};
 
 use crate::seasons::Season;
 use clock::{Clock, Fault, Verdict};
@@ -28,6 +28,7 @@ impl<K: Card, C: Clock, P: Payload> Season<K, C, P> {
             outcome_in result self.now bytes.new ≡ said_in C.meaning P.same self.now q }
         ensures edits { let q = asked self.now.card (Reads call) bytes.old in
             ∥ LawfulIn C.meaning P.same self.now q ∥₁ }
+        ensures verdicts { Tells C.meaning P.same self.now (Reads call) result bytes.new }
     {
         self.law();
         read(&self.card, &self.berths, &self.copies, bytes, call)

@@ -8,7 +8,7 @@ ghost use Rattle.yard_rules.specs.Drop.{drop_call};
 ghost use Rattle.yard_rules.specs.declared.calls.Call.TheVariants.{Writes};
 ghost use Rattle.yard_rules.specs.Page.{asked};
 ghost use Rattle.season.specs.Held.{outcome_in, leaves_in, said_in};
-ghost use Rattle.season.specs.Replays.{EachBehind, LawfulIn};
+ghost use Rattle.season.specs.Replays.{EachBehind, LawfulIn, Tells};
 
 use crate::seasons::Season;
 use clock::{Clock, Fault};
@@ -24,6 +24,7 @@ impl<C: Clock, P: Payload> Season<OpenCard, C, P> {
             outcome_in result self.new bytes.new ≡ said_in C.meaning P.same self.old q }
         ensures edits { let q = asked self.old.card (Writes call) bytes.old in
             ∥ LawfulIn C.meaning P.same self.old q ∥₁ }
+        ensures verdicts { Tells C.meaning P.same self.old (Writes call) result bytes.new }
         ensures card { self.new.card ≡ self.old.card }
     {
         self.law();
