@@ -6,11 +6,14 @@
 -- takes y c           an open yard takes every call, a sealed one a call that reads
 -- zeros              a buffer before a call writes it
 -- replied h c         what the call is answered in the season h, and what it leaves of the two tables
+-- ReplyTells h c r    each verdict in the reply r to the call c compares the edits behind the
+--                     copies in the season h
 -- Carried y c z r     the call c in the yard y leaves the yard z and is answered r:
 --   sealed            it is sealed if it was, or if the call is seal
 --   card              its card has the sizes that it had
 --   tables            the answer and the two tables are those of the call
-use Rattle.std.specs.Prelude.{◌≡◌, ℕ, Bool, true, false, not, ◌||◌, List, [], Result, replicate}
+--   verdicts          each verdict in the answer compares the edits behind the copies in y
+use Rattle.std.specs.Prelude.{◌≡◌, ℕ, Bool, true, false, not, ◌||◌, List, [], Ok, Err, Result, replicate}
 use Rattle.clock.specs.declared.faults.Fault.{Fault}
 use Rattle.clock.specs.Meaning.{Meaning}
 use Rattle.yard_rules.specs.declared.answers.Answer.{Answer}
@@ -20,8 +23,9 @@ use Rattle.yard_rules.specs.Checks.{Outcome, outcome}
 use Rattle.yard_rules.specs.Page.{asked}
 use Rattle.yard_rules.specs.Calls.{in_form}
 use Rattle.season.specs.Held.{Held, outcome_in, said_in}
+use Rattle.season.specs.Replays.{Tells}
 use Rattle.season_log.specs.declared.answers.Reply.{Reply}
-use Rattle.season_log.specs.declared.answers.Reply.TheVariants.{Answered}
+use Rattle.season_log.specs.declared.answers.Reply.TheVariants.{Opened, Answered}
 use Rattle.season_replay.specs.declared.yards.Yard.{Yard}
 use Rattle.season_replay.specs.declared.yards.Yard.TheVariants.{Open, Sealed}
 
@@ -58,7 +62,14 @@ module _ {Pen C P : Type 0} where
     abbrev pub replied : Held Pen C P → Call P → Outcome Pen C P (Reply Pen C)
     replied h c = reply_of h.card.files (said_in m alike h (asked h.card c zeros))
 
+    -- a refusal has no verdict in it, and no call is answered as an open is
+    abbrev pub ReplyTells : Held Pen C P → Call P → Result (Reply Pen C) Fault → Type 0
+    ReplyTells h c (Ok (Answered answer bytes files)) = Tells m alike h c (Ok answer) bytes
+    ReplyTells h c (Ok (Opened sizes)) = ⊥
+    ReplyTells h c (Err e) = Unit
+
     pub record Carried (y : Yard C P Pen) (c : Call P) (z : Yard C P Pen) (r : Result (Reply Pen C) Fault) : Type 0 where
       pub sealed : is_sealed z ≡ (is_sealed y || seals c)
       pub card : (season_of z).card ≡ (season_of y).card
       pub tables : outcome_in r (season_of z) [] ≡ replied (season_of y) c
+      pub verdicts : ReplyTells (season_of y) c r

@@ -5,7 +5,7 @@ ghost use Rattle.yard_rules.specs.declared.calls.Call.TheVariants.{Reads, Writes
 ghost use Rattle.yard_rules.specs.Calls.{in_form};
 ghost use Rattle.season.specs.Held.{outcome_in};
 ghost use Rattle.season_log.specs.declared.answers.Reply.TheVariants.{Answered};
-ghost use Rattle.season_replay.specs.Yards.{takes, replied, Carried};
+ghost use Rattle.season_replay.specs.Yards.{takes, replied, ReplyTells, Carried};
 
 use clock::{Clock, Fault};
 use payload::Payload;
@@ -70,7 +70,9 @@ fn in_open<C: Clock, P: Payload>(
 }
 
 fn read<K: Card, C: Clock, P: Payload>(season: &Season<K, C, P>, call: Reading) -> Answered<C>
-    ensures { outcome_in result season.now [] ≡ replied C.meaning P.same season.now (Reads call) }
+    ensures result { outcome_in result season.now []
+        ≡ replied C.meaning P.same season.now (Reads call) }
+    ensures verdicts { ReplyTells C.meaning P.same season.now (Reads call) result }
 {
     let mut bytes = [0; 32];
     let answer = season.read(&mut bytes, call);
@@ -79,6 +81,7 @@ fn read<K: Card, C: Clock, P: Payload>(season: &Season<K, C, P>, call: Reading) 
 
 fn write<C: Clock, P: Payload>(season: &mut Season<OpenCard, C, P>, call: Writing<P>) -> Answered<C>
     ensures result { outcome_in result season.new [] ≡ replied C.meaning P.same season.old (Writes call) }
+    ensures verdicts { ReplyTells C.meaning P.same season.old (Writes call) result }
     ensures card { season.new.card ≡ season.old.card }
 {
     let mut bytes = [0; 32];
