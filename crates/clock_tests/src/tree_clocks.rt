@@ -27,6 +27,8 @@ fn events_fill_and_grow(rt: HostRuntime) -> Result<(), Fail> {
     for (events, text) in SHOWN {
         MadeClock::after(events)?.shows(rt.alloc(), text)?;
     }
+    let one = MadeClock::after(&[(1, "")])?;
+    assert_eq!(rt; refused_with(one.event(&MadePen::none())), Some(14));
     Ok(())
 }
 
