@@ -69,3 +69,14 @@ pub use sealed_card::SealedCard;
 pub use sealing::seal;
 pub use settling::settle;
 pub use showing::show;
+
+// What the calls share, for a call of one's own over the same tables: the checks, one for each
+// refusal 1 to 6, where the records stand, the count of a verdict, and the berth and file that are
+// added to a clock kind's refusal on its way up.
+pub use checks::{
+    check_berth, check_buffer, check_copy, check_empty, check_file, check_sizes, check_two,
+    check_working, refuse_if,
+};
+pub use counting::count_verdict;
+pub use fault_places::Place;
+pub use records::{place, row};
