@@ -95,9 +95,10 @@ impl<const N: usize> Names<N> {
         if shared {
             return Err(Cause::PensOverlap.into());
         }
+        // `|`, and no `||`: so both are read with no jump between them.
         let either = |name| -> bool
             ensures { result ≡ in_either self.entry.now other.entry.now name }
-        { self.has(name) || other.has(name) };
+        { self.has(name) | other.has(name) };
         Ok(Names {
             held: array::from_fn(either),
         })
