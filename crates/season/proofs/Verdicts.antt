@@ -1,5 +1,5 @@
 -- Verdicts that a season gives compare the edits behind the copies.
-use Rattle.std.proofs.Common.{rules, ◌≡◌, ℕ, Bool, List, Ok, Err, Result, IfOk, OnOk, refl, sym, ap, subst}
+use Rattle.std.proofs.Common.{rules, ◌≡◌, ℕ, Bool, List, Ok, Err, Result, IfOk, OnOk, refl, sym, subst}
 use Rattle.std.proofs.Math.Logic.{∥∥₁_map}
 use Rattle.clock.specs.declared.faults.Fault.{Fault}
 use Rattle.clock.specs.declared.verdicts.Verdict.{Verdict}
