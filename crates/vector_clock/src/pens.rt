@@ -1,6 +1,7 @@
 ghost use Rattle.std.specs.Prelude.{◌≡◌, ◌+◌, ◌/◌, Some};
 ghost use Rattle.clock.specs.Answers.{answered};
-ghost use Rattle.vector_clock.specs.Pens.{in_pen, size_of, all_names, no_names, fork_due, lower_half, upper_half, unite_due, in_either, both_names};
+ghost use Rattle.vector_clock.specs.Counting.{none};
+ghost use Rattle.vector_clock.specs.Pens.{in_pen, size_of, all_names, no_names, fork_due, lower_half, upper_half, in_both, unite_due, in_either, both_names};
 ghost use Rattle.vector_clock.specs.Texts.{names_text};
 
 use crate::items::write_item;
@@ -83,16 +84,23 @@ impl<const N: usize> Names<N> {
         (Names { held: lower }, Names { held: upper })
     }
 
+    // Whether no name is in both. No end at the first shared name, and `&=`: so all names are compared at once, as
+    // counts are.
+    fn is_apart(&self, other: &Names<N>) -> bool
+        ensures { result ≡ none (in_both self.now other.now) N }
+    {
+        let mut apart = true;
+        for (mine, theirs) in self.held.iter().zip(&other.held) {
+            apart &= !(*mine & *theirs);
+        }
+        apart
+    }
+
     /// The pen with the names of both. Refused with 12 where a name is in both.
     pub fn unite(&self, other: &Names<N>) -> Result<Names<N>, Fault>
         ensures { result ≡ answered (unite_due self.now other.now) (both_names self.now other.now) }
     {
-        let shared = self
-            .held
-            .iter()
-            .zip(&other.held)
-            .any(|(mine, theirs)| *mine && *theirs);
-        if shared {
+        if !self.is_apart(other) {
             return Err(Cause::PensOverlap.into());
         }
         // `|`, and no `||`: so both are read with no jump between them.
